@@ -1,0 +1,16 @@
+-- `galois::alpha_inverse_times` meets its contract: the entry is the row times the byte.
+-- Assumes nothing.
+use mathlib.Core.Path.{ap, _∙_}
+use Prim.Native.Nat.{_/_, _^_}
+use borrow.Author.Needs.{needs}
+use lib.Bits.{bitXor}
+use Rattle.galois.specs.Alpha.{scaled, alphaInverseRow, alphaInverseTimes}
+use Rattle.galois.proofs.alpha_inverse_times.Statement.{statement}
+use Rattle.galois.proofs.alpha_inverse_times.Tie as tie
+
+returns : tie.Need-returns
+unfolding alphaInverseTimes
+returns c = ap (bitXor (c .before .before .args .w / 2 ^ 8)) (c .scaled-row .ensures ∙ ap (scaled alphaInverseRow) (c .before .byte-of .ensures))
+
+pub alpha-inverse-times-spec : {M : Type 1} → statement M
+alpha-inverse-times-spec = tie.close (tie.spec (λ c κs. search needs) (λ c κs. search needs) returns)

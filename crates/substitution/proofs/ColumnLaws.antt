@@ -1,0 +1,27 @@
+-- The eight tables of a circulant matrix, each byte sent on first, look up to its product. All eight columns are this law.
+-- Assumes nothing.
+use mathlib.Core.Path.{_≡_, sym, ap, _∙_}
+use mathlib.Core.List.{List, []}
+use Prim.Native.Nat.{ℕ, _<_}
+use lib.ListN.{getD}
+use Rattle.galois.specs.Words.{byte, word, tabulate, at}
+use Rattle.galois.specs.Field.{gmul}
+use Rattle.galois.proofs.Bytes.{tabulate-at, byte-lt, byte-word}
+use Rattle.substitution.specs.Matrix.{circulant, rowTimes, circulantTimes}
+use Rattle.substitution.specs.Substitution.{columnTimes, columnEntry, columnTables, lookUp}
+use Rattle.substitution.proofs.XorSum.{xorSum-ext, word-xorSum}
+use Rattle.substitution.proofs.MatrixLaws.{ByteRow, term-lt}
+
+module _ (row : List ℕ) (b : ByteRow row) (f : ℕ → ℕ → ℕ) (bytes : (j c : ℕ) → c < 256 → f j c < 256) where
+  entry-at : (j c : ℕ) → j < 8 → c < 256 → at (getD (columnTables row f) j []) c ≡ columnEntry row f j c
+  unfolding columnTables
+  entry-at j c hj hc =
+      ap (λ (t : List ℕ). at t c) (tabulate-at [] 8 (λ j. tabulate 256 (columnEntry row f j)) j hj) ∙ tabulate-at 0 256 (columnEntry row f j) c hc
+
+  pub columns-circulant : (w : ℕ) → lookUp (columnTables row f) w ≡ circulantTimes row (word 8 (λ j. f j (byte w j)))
+  unfolding lookUp circulantTimes rowTimes
+  columns-circulant w =
+      let v : ℕ = word 8 (λ j. f j (byte w j)) in
+      xorSum-ext 8 (λ j. at (getD (columnTables row f) j []) (byte w j)) (λ j. columnTimes row j (byte v j))
+      (λ j l. entry-at j (byte w j) l (byte-lt w j) ∙ ap (columnTimes row j) (sym (byte-word 8 (λ j. f j (byte w j)) (λ j. bytes j (byte w j) (byte-lt w j)) j l)))
+      ∙ sym (word-xorSum 8 8 (λ i j. gmul (circulant row i j) (byte v j)) (λ i j. term-lt row b i j (byte v j)))

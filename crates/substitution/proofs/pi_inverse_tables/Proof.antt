@@ -1,0 +1,13 @@
+-- `substitution::pi_inverse_tables` meets its contract: antt computes the rule at all 1,024 entries and compares.
+-- Assumes nothing.
+use mathlib.Core.Path.{refl}
+use Rattle.substitution.specs.Pi.{piInverse}
+use Rattle.substitution.proofs.pi_inverse_tables.Statement.{statement}
+use Rattle.substitution.proofs.pi_inverse_tables.Tie as tie
+
+returns : tie.Need-returns
+unfolding piInverse
+returns c = refl
+
+pub pi-inverse-tables-spec : {M : Type 1} → statement M
+pi-inverse-tables-spec = tie.close (tie.spec returns)

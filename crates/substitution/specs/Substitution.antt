@@ -1,0 +1,37 @@
+-- T, its inverse, and T through eight tables.
+-- Assumes nothing.
+use mathlib.Core.List.{List, []}
+use Prim.Native.Nat.{ℕ}
+use lib.ListN.{getD}
+use Rattle.galois.specs.Words.{byte, word, tabulate, at}
+use Rattle.galois.specs.Field.{gmul}
+use Rattle.substitution.specs.Pi.{pi, piInverse, sent, through}
+use Rattle.substitution.specs.Matrix.{xorSum, circulant, matrixRow, matrixInverseRow, circulantTimes}
+
+-- "T: byte j of the word goes through π(j mod 4); then q = M·r in the byte field. .. Byte j of the result is q_j."
+unfoldable pub substitute : ℕ → ℕ
+substitute w = circulantTimes matrixRow (through pi w)
+
+-- T inverted
+unfoldable pub substituteInverse : ℕ → ℕ
+substituteInverse w = through piInverse (circulantTimes matrixInverseRow w)
+
+-- column j of the matrix with this row 0, times the byte x
+abbrev pub columnTimes : List ℕ → ℕ → ℕ → ℕ
+columnTimes row j x = word 8 (λ i. gmul (circulant row i j) x)
+
+-- the rule of the eight tables, with the column as parameter: entry c of table j is column j, times what f sends c to as byte j
+abbrev pub columnEntry : List ℕ → (ℕ → ℕ → ℕ) → ℕ → ℕ → ℕ
+columnEntry row f j c = columnTimes row j (f j c)
+
+-- the eight tables of 256 words
+unfoldable pub columnTables : List ℕ → (ℕ → ℕ → ℕ) → List (List ℕ)
+columnTables row f = tabulate 8 (λ j. tabulate 256 (columnEntry row f j))
+
+-- the tables of T
+abbrev pub substitutionTables : List (List ℕ)
+substitutionTables = columnTables matrixRow (sent pi)
+
+-- the entries of eight tables at the bytes of w, together: T_0[w_0] ⊕ .. ⊕ T_7[w_7]
+unfoldable pub lookUp : List (List ℕ) → ℕ → ℕ
+lookUp tables w = xorSum 8 (λ j. at (getD tables j []) (byte w j))

@@ -1,0 +1,20 @@
+-- `tables::hex::hex_word` meets its contract, digit by digit.
+-- Assumes nothing.
+use borrow.Author.Needs.{needs}
+use Rattle.tables.specs.Hex.{hexWord}
+use Rattle.tables.proofs.hex.hex_word.Statement.{statement}
+use Rattle.tables.proofs.hex.hex_word.Tie as tie
+
+returns : tie.Need-returns
+unfolding hexWord
+returns c = cc
+
+pub hex-word-spec : {M : Type 1} → statement M
+hex-word-spec =
+    tie.close
+    (tie.spec
+    (λ c κs. search needs) (λ c κs. search needs) (λ c κs. search needs) (λ c κs. search needs)
+    (λ c κs. search needs) (λ c κs. search needs) (λ c κs. search needs) (λ c κs. search needs)
+    (λ c κs. search needs) (λ c κs. search needs) (λ c κs. search needs) (λ c κs. search needs)
+    (λ c κs. search needs) (λ c κs. search needs) (λ c κs. search needs) (λ c κs. search needs)
+    returns)
