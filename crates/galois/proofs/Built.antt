@@ -1,12 +1,13 @@
--- A loop that builds a word of eight bytes from its top byte down: what it keeps.
+-- A loop that builds a word of eight bytes from its top byte down, with `append_byte`: what it keeps.
 -- Assumes nothing.
 use mathlib.Core.Path.{_≡_, refl, sym, ap, ap₂, _∙_, subst, fun-ext}
-use Prim.Native.Nat.{ℕ, suc, _+_, _-_, _*_, _^_, _≤_, _<_}
+use Prim.Native.Nat.{ℕ, suc, _+_, _-_, _*_, _%_, _^_, _≤_, _<_}
 use native.Mathlib.Nat.{add-zero, zero-add, lt-of-lt-of-le}
 use native.Mathlib.Omega.{arith}
 use lib.Arith.{digits-lt}
 use lib.Pow.{pow-add, pow-mono}
-use Rattle.galois.specs.Words.{word}
+use Rattle.galois.specs.Words.{byte, word}
+use Rattle.galois.proofs.Bytes.{byte-lt}
 
 -- out has the bytes f i, .., f 7
 pub record Built (f : ℕ → ℕ) (out i : ℕ) : Type 0 where
@@ -17,19 +18,20 @@ pub record Built (f : ℕ → ℕ) (out i : ℕ) : Type 0 where
 pub built-start : (f : ℕ → ℕ) → Built f 0 8
 built-start f = record { most = omega arith; small = omega arith; value = refl }
 
--- there is room for one byte more
-pub built-room : {f : ℕ → ℕ} {out i : ℕ} → Built f out i → 0 < i → out < 2 ^ 56
-built-room {i = i} b h = let le : 8 * (8 - i) ≤ 56 = omega arith in lt-of-lt-of-le (b .small) (pow-mono le)
-
-pub built-more : {f : ℕ → ℕ} {out i : ℕ} (x : ℕ) → Built f out i → 0 < i → x < 256 → x ≡ f (i - 1) → Built f (out * 256 + x) (i - 1)
-built-more {f} {out} {i} x b h l e =
+-- one byte more: none is lost
+pub built-more : {f : ℕ → ℕ} {out i r x : ℕ} → Built f out i → 0 < i → x ≡ f (i - 1) → (r ≡ out * 2 ^ 8 % 2 ^ 64 + x) × (byte r 0 ≡ x) → Built f r (i - 1)
+built-more {f} {out} {i} {r} {x} b h e a =
+    let l : x < 256 = rw (a .1) at (byte-lt r 0) in
+    let room : 8 * (8 - i) ≤ 56 = omega arith in
+    let kept : r ≡ out * 256 + x = omega (arith, lt-of-lt-of-le (b .small) (pow-mono room)) in
     let size : suc (8 - i) ≡ 8 - (i - 1) = omega arith in
     let bits : 8 * (8 - i) + 8 ≡ 8 * (8 - (i - 1)) = omega arith in
     record {
       most = omega arith;
-      small = subst (λ (n : ℕ). out * 256 + x < n) (sym (pow-add 2 (8 * (8 - i)) 8) ∙ ap (λ (n : ℕ). 2 ^ n) bits) (digits-lt (b .small) l);
+      small = rw kept (subst (λ (n : ℕ). out * 256 + x < n) (sym (pow-add 2 (8 * (8 - i)) 8) ∙ ap (λ (n : ℕ). 2 ^ n) bits) (digits-lt (b .small) l));
       value =
-          ap₂ (λ (y z : ℕ). y * 256 + z) (b .value ∙ ap (word (8 - i)) (fun-ext (λ k. ap f (next k)))) (e ∙ ap f (sym (add-zero (i - 1))))
+          kept
+          ∙ ap₂ (λ (y z : ℕ). y * 256 + z) (b .value ∙ ap (word (8 - i)) (fun-ext (λ k. ap f (next k)))) (e ∙ ap f (sym (add-zero (i - 1))))
           ∙ ap (λ (n : ℕ). word n (λ k. f (i - 1 + k))) size;
     }
   where

@@ -1,6 +1,6 @@
 // Bytes and words, the byte field, and the products of a word with α and its inverse, by rule and by table.
 ghost use mathlib.Core.Path.{_≡_};
-ghost use Prim.Native.Nat.{_<_};
+ghost use Prim.Native.Nat.{_+_, _*_, _%_, _^_};
 ghost use Rattle.galois.specs.Words.{byte, at};
 ghost use Rattle.galois.specs.Field.{xtime, gmul};
 ghost use Rattle.galois.specs.Alpha.{scaled, alphaTable, alphaInverseTable, alphaTimesWith, alphaInverseTimesWith, alphaTimes, alphaInverseTimes};
@@ -13,13 +13,6 @@ const ALPHA_INVERSE_ROW: u64 = 0x47FCC6018A990000;
 
 // ---- bytes and words
 
-// A byte as a word.
-pub fn wide(x: u8) -> u64
-    ensures { λ r. ⌜ (r ≡ x) × (r < 256) ⌝ }
-{
-    x as u64
-}
-
 // Byte j of a word; byte 0 is the least significant. A word has no byte past 7: there it is 0.
 pub fn byte_of(w: u64, j: u64) -> u8
     ensures { λ r. ⌜ r ≡ byte w j ⌝ }
@@ -28,6 +21,13 @@ pub fn byte_of(w: u64, j: u64) -> u8
         return 0;
     }
     ((w >> (8 * j)) % 256) as u8
+}
+
+// The bytes of w each moved up one place, the top one lost, and x as byte 0.
+pub fn append_byte(w: u64, x: u8) -> u64
+    ensures { λ r. ⌜ (r ≡ w * 2 ^ 8 % 2 ^ 64 + x) × (byte r 0 ≡ x) ⌝ }
+{
+    (w << 8) + (x as u64)
 }
 
 // ---- the byte field
@@ -67,7 +67,7 @@ fn scaled_row(row: u64, c: u8) -> u64
     let mut j: u64 = 8;
     while 0 < j {
         j -= 1;
-        out = out * 256 + wide(product(byte_of(row, j), c));
+        out = append_byte(out, product(byte_of(row, j), c));
     }
     out
 }

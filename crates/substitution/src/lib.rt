@@ -47,7 +47,7 @@ pub fn through_tables(w: u64, tables: &[[u8; 256]; 4]) -> u64
     let mut j: usize = 8;
     while 0 < j {
         j -= 1;
-        out = out * 256 + galois::wide(tables[j % 4][galois::byte_of(w, j as u64) as usize]);
+        out = galois::append_byte(out, tables[j % 4][galois::byte_of(w, j as u64) as usize]);
     }
     out
 }
@@ -74,7 +74,7 @@ pub fn circulant_times(row: &[u8; 8], w: u64) -> u64
     let mut i: usize = 8;
     while 0 < i {
         i -= 1;
-        out = out * 256 + galois::wide(row_times(row, i, w));
+        out = galois::append_byte(out, row_times(row, i, w));
     }
     out
 }

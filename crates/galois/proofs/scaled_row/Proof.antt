@@ -3,10 +3,9 @@
 use mathlib.Core.Path.{ap, _∙_}
 use Prim.Native.Nat.{ℕ}
 use borrow.Author.Needs.{needs}
-use native.Mathlib.Omega.{arith}
 use Rattle.galois.specs.Words.{byte}
 use Rattle.galois.specs.Field.{gmul}
-use Rattle.galois.proofs.Built.{Built, built-start, built-room, built-more, built-end}
+use Rattle.galois.proofs.Built.{Built, built-start, built-more, built-end}
 use Rattle.galois.proofs.scaled_row.Statement.{statement}
 use Rattle.galois.proofs.scaled_row.Tie as tie
 
@@ -19,9 +18,9 @@ abbrev μ-loop : tie.MeasureT-loop
 loop-again : tie.Need-loop-again Inv-loop μ-loop
 loop-again c =
     let turn = c .before .before .before in
-    built-more _ (turn .before .loop .inv) (turn .loop-test .taken) (c .wide .ensures .1)
-    (c .wide .ensures .0 ∙ c .before .product .ensures
-    ∙ ap (λ (x : ℕ). gmul x (turn .before .before .args .c)) (c .before .before .byte-of .ensures))
+    built-more (turn .before .loop .inv) (turn .loop-test .taken)
+    (c .before .product .ensures ∙ ap (λ (x : ℕ). gmul x (turn .before .before .args .c)) (c .before .before .byte-of .ensures))
+    (c .append-byte .ensures)
 
 pub scaled-row-spec : {M : Type 1} → statement M
 scaled-row-spec =
@@ -31,11 +30,9 @@ scaled-row-spec =
     μ-loop
     (λ c. built-start _)
     (λ c. search needs)
-    (λ c. omega (arith, built-room (c .before .loop .inv) (c .loop-test .taken)))
     (λ c κs. search needs)
     (λ c κs. search needs)
     (λ c κs. search needs)
-    (λ c. let turn = c .before .before .before in omega (arith, built-room (turn .before .loop .inv) (turn .loop-test .taken)))
     (λ c. search needs)
     loop-again
     (λ c. built-end (c .before .loop .inv) (c .loop-test .left)))

@@ -1,9 +1,8 @@
 -- `substitution::circulant_times` meets its contract: the bytes from i on are in place.
 -- Assumes nothing.
-use mathlib.Core.Path.{_∙_}
 use borrow.Author.Needs.{needs}
 use native.Mathlib.Omega.{arith}
-use Rattle.galois.proofs.Built.{Built, built-start, built-room, built-more, built-end}
+use Rattle.galois.proofs.Built.{Built, built-start, built-more, built-end}
 use Rattle.substitution.specs.Matrix.{rowTimes, circulantTimes}
 use Rattle.substitution.proofs.circulant_times.Statement.{statement}
 use Rattle.substitution.proofs.circulant_times.Tie as tie
@@ -17,7 +16,7 @@ abbrev μ-loop : tie.MeasureT-loop
 loop-again : tie.Need-loop-again Inv-loop μ-loop
 loop-again c =
     let turn = c .before .before in
-    built-more _ (turn .before .loop .inv) (turn .loop-test .taken) (c .wide .ensures .1) (c .wide .ensures .0 ∙ c .before .row-times .ensures)
+    built-more (turn .before .loop .inv) (turn .loop-test .taken) (c .before .row-times .ensures) (c .append-byte .ensures)
 
 returns : tie.Need-returns Inv-loop μ-loop
 unfolding circulantTimes
@@ -31,10 +30,8 @@ circulant-times-spec =
     μ-loop
     (λ c. built-start _)
     (λ c. search needs)
-    (λ c. omega (arith, built-room (c .before .loop .inv) (c .loop-test .taken)))
     (λ c κs. omega (arith, c .before .loop .inv .most))
     (λ c κs. search needs)
-    (λ c. let turn = c .before .before in omega (arith, built-room (turn .before .loop .inv) (turn .loop-test .taken)))
     (λ c. search needs)
     loop-again
     returns)

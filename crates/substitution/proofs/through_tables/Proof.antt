@@ -1,11 +1,10 @@
 -- `substitution::through_tables` meets its contract: the bytes from j on are in place.
 -- Assumes nothing.
-use mathlib.Core.Path.{ap, _∙_}
+use mathlib.Core.Path.{ap}
 use Prim.Native.Nat.{_-_}
 use borrow.Author.Needs.{needs}
-use native.Mathlib.Omega.{arith}
 use Rattle.galois.specs.Words.{byte}
-use Rattle.galois.proofs.Built.{Built, built-start, built-room, built-more, built-end}
+use Rattle.galois.proofs.Built.{Built, built-start, built-more, built-end}
 use Rattle.substitution.specs.Pi.{sent, through}
 use Rattle.substitution.proofs.through_tables.Statement.{statement}
 use Rattle.substitution.proofs.through_tables.Tie as tie
@@ -20,17 +19,8 @@ loop-again : tie.Need-loop-again Inv-loop μ-loop
 loop-again c =
     let turn = c .before .before .before in
     let a = turn .before .before .args in
-    built-more _ (turn .before .loop .inv) (turn .loop-test .taken) (c .wide .ensures .1)
-    (c .wide .ensures .0 ∙ ap (sent (a .tables .now) (turn .before .loop .j - 1)) (c .before .before .byte-of .ensures))
-
-add-out : tie.Need-add-out Inv-loop μ-loop
-add-out c = let turn = c .before .before .before in omega (arith, built-room (turn .before .loop .inv) (turn .loop-test .taken))
-
-cast : tie.Need-cast-wide Inv-loop μ-loop
-cast c = search needs
-
-index-2 : tie.Need-index-2-wide Inv-loop μ-loop
-index-2 c = search needs
+    built-more (turn .before .loop .inv) (turn .loop-test .taken)
+    (ap (sent (a .tables .now) (turn .before .loop .j - 1)) (c .before .before .byte-of .ensures)) (c .append-byte .ensures)
 
 returns : tie.Need-returns Inv-loop μ-loop
 unfolding through
@@ -44,14 +34,12 @@ through-tables-spec =
     μ-loop
     (λ c. built-start _)
     (λ c. search needs)
-    (λ c. omega (arith, built-room (c .before .loop .inv) (c .loop-test .taken)))
     (λ c κs. search needs)
-    cast
     (λ c. search needs)
     (λ c. search needs)
-    index-2
+    (λ c. search needs)
+    (λ c. search needs)
     (λ c κs. search needs)
-    add-out
     (λ c. search needs)
     loop-again
     returns)
