@@ -21,6 +21,7 @@ placeOf c (x ∷ xs) = elim (eqb x c) [ true ↦ 0 | false ↦ suc (placeOf c xs
 abbrev pub inverse : List ℕ → List ℕ
 inverse table = tabulate 256 (λ c. placeOf c table)
 
+-- the inverses of the four
 unfoldable pub piInverse : List (List ℕ)
 piInverse = tabulate 4 (λ t. inverse (getD pi t []))
 
