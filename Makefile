@@ -7,6 +7,7 @@ test:
 
 # Builds the tables program and runs it.
 run:
+	@echo 'proving and building the tables program, about a minute the first time' >&2
 	@mkdir -p target && rt check tables >target/run.log 2>&1 || { cat target/run.log; exit 1; }
 	@target/bin/tables
 

@@ -24,6 +24,9 @@ after-linear g f hg hf a b = ap g (hf a b) ∙ hg (f a) (f b)
 abbrev pub FixesPowers : (ℕ → ℕ) → ℕ → Type 0
 FixesPowers f n = T (allBelow n (λ k. eqb (f (2 ^ k)) (2 ^ k)))
 
+pub power-fixed : (f : ℕ → ℕ) (n : ℕ) → FixesPowers f n → (k : ℕ) → k < n → f (2 ^ k) ≡ 2 ^ k
+power-fixed f n test k h = eqb→eq (f (2 ^ k)) (2 ^ k) (below n (λ k. eqb (f (2 ^ k)) (2 ^ k)) test k h)
+
 module _ (f : ℕ → ℕ) (linear : Linear f) where
   zero-fixed : f 0 ≡ 0
   zero-fixed = linear 0 0 ∙ xor-self (f 0)
@@ -46,7 +49,7 @@ module _ (f : ℕ → ℕ) (linear : Linear f) where
 
   -- a xor-linear map that fixes the powers of two below 2 ^ n fixes every number below 2 ^ n
   pub fixes : (n : ℕ) → FixesPowers f n → (w : ℕ) → w < 2 ^ n → f w ≡ w
-  fixes n t = fixes-below n (λ k h. eqb→eq (f (2 ^ k)) (2 ^ k) (below n (λ k. eqb (f (2 ^ k)) (2 ^ k)) t k h))
+  fixes n test = fixes-below n (power-fixed f n test)
 
 -- two such maps on words undo each other where they do so at the 64 powers of two
 pub undoes-linear : (g f : ℕ → ℕ) → Linear g → Linear f → ((w : ℕ) → w < 2 ^ 64 → f w < 2 ^ 64) → FixesPowers (λ w. g (f w)) 64 → UndoesWord g f

@@ -37,7 +37,7 @@ fn beta_times(a: u8) -> u8
     ensures { λ r. ⌜ r ≡ xtime a ⌝ }
 {
     let x = a as u64;
-    ((x / 128 * 0x11D) ^ (x * 2)) as u8
+    (((x / 128 * 0x11D) ^ (x * 2)) % 256) as u8
 }
 
 // The product of two bytes.

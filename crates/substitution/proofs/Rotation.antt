@@ -11,7 +11,7 @@ use Rattle.galois.specs.Words.{byte, word, at, UndoesWord}
 use Rattle.galois.specs.Field.{gmul}
 use Rattle.galois.proofs.Computed.{below, below₂}
 use Rattle.galois.proofs.Xor.{xor-assoc}
-use Rattle.galois.proofs.Linear.{FixesPowers, after-linear, fixes-below}
+use Rattle.galois.proofs.Linear.{FixesPowers, after-linear, power-fixed, fixes-below}
 use Rattle.galois.proofs.Bytes.{byte-lt, byte-word, word-ext}
 use Rattle.substitution.specs.Matrix.{xorSum, placeInRow, circulant, rowTimes, circulantTimes}
 use Rattle.substitution.proofs.XorSum.{xorSum-ext}
@@ -72,7 +72,7 @@ module _ (f : ℕ → ℕ) (keeps : (w : ℕ) → f (rotated w) ≡ rotated (f w
   fixed-at : (m r : ℕ) → m < 8 → r < 8 → f (2 ^ (8 * m + r)) ≡ 2 ^ (8 * m + r)
   fixed-at zero r hm hr =
       let e : 8 * 0 + r ≡ r = omega arith in
-      rw e (eqb→eq (f (2 ^ r)) (2 ^ r) (below 8 (λ k. eqb (f (2 ^ k)) (2 ^ k)) test r hr))
+      rw e (power-fixed f 8 test r hr)
   fixed-at (suc m) r hm hr =
       let e : 8 * suc m + r ≡ 8 + (8 * m + r) = omega arith in
       let up = power-rotated (8 * m + r) (omega arith) in
