@@ -31,5 +31,5 @@ substitution-laws =
       matrix-inverse = matrix-inverse;
       inverse-substitute = undoes-after (through piInverse) (circulantTimes matrixInverseRow) (circulantTimes matrixRow) (through pi) inverse-matrix (undoes-through piInverse pi inverse-pi);
       substitute-inverse = undoes-after (circulantTimes matrixRow) (through pi) (through piInverse) (circulantTimes matrixInverseRow) (undoes-through pi piInverse pi-inverse) matrix-inverse;
-      table-path = λ w h. columns-circulant matrixRow tt (sent pi) (sent-lt piInverse pi inverse-pi) w;
+      table-path = λ w. columns-circulant matrixRow tt (sent pi) (sent-lt piInverse pi inverse-pi) w;
     }

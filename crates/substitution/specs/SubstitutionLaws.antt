@@ -27,5 +27,5 @@ pub record SubstitutionLaws : Type 0 where
   -- T "inverted": on both sides
   pub inverse-substitute : UndoesWord substituteInverse substitute
   pub substitute-inverse : UndoesWord substitute substituteInverse
-  -- "The table path equals the plain one on every word."
-  pub table-path : (w : ℕ) → w < 2 ^ 64 → lookUp substitutionTables w ≡ substitute w
+  -- "The table path equals the plain one on every word": and on every number
+  pub table-path : (w : ℕ) → lookUp substitutionTables w ≡ substitute w

@@ -1,0 +1,66 @@
+-- The laws of steps and walks that specs/GeneratorLaws.antt states.
+-- Assumes nothing.
+use mathlib.Core.Path.{_≡_, ap, fun-ext, _∙_}
+use mathlib.Core.List.{List}
+use Prim.Native.Nat.{ℕ}
+use Rattle.galois.specs.Words.{at}
+use Rattle.galois.specs.Alpha.{alphaTable, alphaInverseTable, alphaTimesWith, alphaInverseTimesWith, alphaTimes, alphaInverseTimes}
+use Rattle.galois.proofs.AlphaLaws.{alpha-laws}
+use Rattle.substitution.specs.Substitution.{substitutionTables, lookUp, substitute, substituteInverse}
+use Rattle.substitution.proofs.SubstitutionLaws.{substitution-laws}
+use Rattle.generator.specs.declared.State.{State}
+use Rattle.generator.specs.declared.Kind.{Kind}
+use Rattle.generator.specs.Registers.{Registers, registersOf, withRegisters, nextWith, previousWith, next, previous, iterate}
+use Rattle.generator.specs.Functions.{forwardBy, backwardBy}
+use Rattle.generator.specs.GeneratorLaws.{UndoneBy, GeneratorLaws}
+use Rattle.generator.proofs.Round as Round
+use Rattle.generator.proofs.Iterate.{iterate-add, iterate-undone, undone-one-to-one}
+
+pub previous-next : (kind : Kind) → UndoneBy (previous kind) (next kind)
+previous-next kind =
+    record {
+      keeps = Round.next-words (substitution-laws .inverse-substitute) (substitution-laws .substitute-inverse) (alpha-laws .inverse-alpha) (alpha-laws .alpha-inverse) kind;
+      undone = Round.previous-next (substitution-laws .inverse-substitute) (substitution-laws .substitute-inverse) (alpha-laws .inverse-alpha) (alpha-laws .alpha-inverse) kind;
+    }
+
+pub next-previous : (kind : Kind) → UndoneBy (next kind) (previous kind)
+next-previous kind =
+    record {
+      keeps = Round.previous-words (substitution-laws .inverse-substitute) (substitution-laws .substitute-inverse) (alpha-laws .inverse-alpha) (alpha-laws .alpha-inverse) kind;
+      undone = Round.next-previous (substitution-laws .inverse-substitute) (substitution-laws .substitute-inverse) (alpha-laws .inverse-alpha) (alpha-laws .alpha-inverse) kind;
+    }
+
+table-path : lookUp substitutionTables ≡ substitute
+table-path = fun-ext (substitution-laws .table-path)
+
+alpha-path : alphaTimesWith (at alphaTable) ≡ alphaTimes
+alpha-path = fun-ext (alpha-laws .alpha-by-table)
+
+inverse-path : alphaInverseTimesWith (at alphaInverseTable) ≡ alphaInverseTimes
+inverse-path = fun-ext (alpha-laws .inverse-by-table)
+
+pub generator-laws : GeneratorLaws
+generator-laws =
+    record {
+      previous-next = previous-next;
+      next-previous = next-previous;
+      back-forward = λ kind. iterate-undone (previous-next kind);
+      forward-back = λ kind. iterate-undone (next-previous kind);
+      forward-one-to-one = λ kind n. undone-one-to-one (iterate-undone (previous-next kind) n);
+      backward-one-to-one = λ kind n. undone-one-to-one (iterate-undone (next-previous kind) n);
+      forward-compose = λ kind. iterate-add (next kind);
+      backward-compose = λ kind. iterate-add (previous kind);
+      next-by-tables =
+        ap (λ (t : ℕ → ℕ). nextWith t (alphaTimesWith (at alphaTable)) (alphaInverseTimesWith (at alphaInverseTable))) table-path
+        ∙ ap (λ (a : ℕ → ℕ). nextWith substitute a (alphaInverseTimesWith (at alphaInverseTable))) alpha-path
+        ∙ ap (nextWith substitute alphaTimes) inverse-path;
+      previous-by-table = ap (previousWith substituteInverse) inverse-path;
+    }
+
+-- ---- walks by the tables of T and α
+
+pub forward-by-tables : {tables : List (List ℕ)} {alpha inverse : List ℕ} → tables ≡ substitutionTables → alpha ≡ alphaTable → inverse ≡ alphaInverseTable → (kind : Kind) (n : ℕ) (s : State) → forwardBy tables alpha inverse kind n s ≡ withRegisters s (iterate (next kind) n (registersOf s))
+forward-by-tables et ea ei kind n s = rw (et, ea, ei) (ap (λ (f : Kind → Registers → Registers). withRegisters s (iterate (f kind) n (registersOf s))) (generator-laws .next-by-tables))
+
+pub backward-by-table : {inverse : List ℕ} → inverse ≡ alphaInverseTable → (kind : Kind) (n : ℕ) (s : State) → backwardBy inverse kind n s ≡ withRegisters s (iterate (previous kind) n (registersOf s))
+backward-by-table ei kind n s = rw ei (ap (λ (f : Kind → Registers → Registers). withRegisters s (iterate (f kind) n (registersOf s))) (generator-laws .previous-by-table))

@@ -1,0 +1,32 @@
+-- Walks of n steps: they compose, and where g undoes f the walks undo each other and are one-to-one.
+-- Assumes nothing.
+use mathlib.Core.Path.{_≡_, refl, sym, ap, _∙_}
+use Prim.Native.Nat.{ℕ, zero, suc, _+_}
+use native.Mathlib.Nat.{add-zero, add-suc}
+use Rattle.generator.specs.Registers.{Registers, EighteenWords, iterate}
+use Rattle.generator.specs.GeneratorLaws.{UndoneBy, OneToOne}
+
+pub iterate-add : {A : Type 0} (f : A → A) (m n : ℕ) (x : A) → iterate f (m + n) x ≡ iterate f n (iterate f m x)
+iterate-add f m zero x = rw add-zero refl
+iterate-add f m (suc n) x = rw add-suc (ap f (iterate-add f m n x))
+
+iterate-in : {A : Type 0} (f : A → A) (n : ℕ) (x : A) → iterate f n (f x) ≡ f (iterate f n x)
+iterate-in f zero x = refl
+iterate-in f (suc n) x = ap f (iterate-in f n x)
+
+module _ {g f : Registers → Registers} (u : UndoneBy g f) where
+  iterate-keeps : (n : ℕ) (r : Registers) → EighteenWords r → EighteenWords (iterate f n r)
+  iterate-keeps zero r w = w
+  iterate-keeps (suc n) r w = u .keeps (iterate f n r) (iterate-keeps n r w)
+
+  iterate-back : (n : ℕ) (r : Registers) → EighteenWords r → iterate g n (iterate f n r) ≡ r
+  iterate-back zero r w = refl
+  iterate-back (suc n) r w =
+      sym (iterate-in g n (f (iterate f n r))) ∙ ap (iterate g n) (u .undone (iterate f n r) (iterate-keeps n r w)) ∙ iterate-back n r w
+
+  pub iterate-undone : (n : ℕ) → UndoneBy (iterate g n) (iterate f n)
+  iterate-undone n = record { keeps = iterate-keeps n; undone = iterate-back n }
+
+-- what can be undone is one-to-one
+pub undone-one-to-one : {g f : Registers → Registers} → UndoneBy g f → OneToOne f
+undone-one-to-one {g} {f} u a b wa wb e = sym (u .undone a wa) ∙ ap g e ∙ u .undone b wb

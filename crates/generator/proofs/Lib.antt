@@ -1,0 +1,7 @@
+-- The proofs of generator's laws.
+pub mod Known
+pub mod Cells
+pub mod Sums
+pub mod Round
+pub mod Iterate
+pub mod GeneratorLaws

@@ -1,0 +1,17 @@
+-- Sums and differences of words, without the carry.
+-- Assumes nothing.
+use mathlib.Core.Path.{_≡_}
+use Prim.Native.Nat.{ℕ, _+_, _%_, _^_, _<_}
+use native.Mathlib.Omega.{arith}
+use Rattle.generator.specs.Registers.{sum, difference}
+
+module _ (a b : ℕ) (ha : a < 2 ^ 64) (hb : b < 2 ^ 64) where
+  pub difference-sum : difference (sum a b) b ≡ a
+  difference-sum = omega arith
+
+  pub sum-difference : sum (difference a b) b ≡ a
+  sum-difference = omega arith
+
+  -- a word to which b is added to give a is the difference
+  pub difference-is : {r : ℕ} → r < 2 ^ 64 → sum r b ≡ a → r ≡ difference a b
+  difference-is h e = omega arith

@@ -1,0 +1,34 @@
+-- backward: a loop of steps back.
+use Prim.Native.Nat.{ℕ, _≤_, _-_}
+use mathlib.Core.Path.{_≡_, refl, ap, _∙_}
+use native.Mathlib.Numerals.{add-one}
+use native.Mathlib.Omega.{arith}
+use borrow.Author.Needs.{needs}
+use Rattle.generator.specs.Functions.{stepBackBy, backwardBy}
+use Rattle.generator.proofs.backward.Statement.{statement}
+use Rattle.generator.proofs.backward.Tie as tie
+
+-- after i turns, i steps back are done
+abbrev Inv-loop : tie.InvT-loop
+Inv-loop kind n inverse t₀ i₀ t i = (t ≡ backwardBy inverse kind i t₀) × (i ≤ n)
+
+abbrev μ-loop : tie.MeasureT-loop
+μ-loop kind n inverse t₀ i₀ t i = n - i
+
+loop-again : tie.Need-loop-again Inv-loop μ-loop
+loop-again c =
+    let l = c .before .before .loop in
+    let a = c .before .before .before .args in
+    (rw add-one (c .step-back .ensures ∙ ap (stepBackBy (a .inverse .now) (a .kind)) (l .inv .0)), omega arith)
+
+returns : tie.Need-returns Inv-loop μ-loop
+returns c =
+    let l = c .before .loop in
+    let a = c .before .before .args in
+    let e : l .i ≡ a .n = omega arith in
+    l .inv .0 ∙ ap (λ (i : ℕ). backwardBy (a .inverse .now) (a .kind) i (a .s)) e
+
+pub backward-spec : {M : Type 1} → statement M
+backward-spec =
+    tie.close
+    (tie.spec Inv-loop μ-loop (λ c. (refl, omega arith)) (λ c κs. search needs) (λ c. omega arith) (λ c. omega arith) loop-again returns)

@@ -1,0 +1,36 @@
+-- What is proved of steps and walks: proofs/GeneratorLaws.antt has `generator-laws : GeneratorLaws`.
+-- Each law is said once for both kinds of step, and of all registers: sixteen cells and two registers that hold any words.
+-- Assumes nothing.
+use mathlib.Core.Path.{_≡_}
+use Prim.Native.Nat.{ℕ, _+_}
+use Rattle.galois.specs.Alpha.{alphaTable, alphaInverseTable}
+use Rattle.substitution.specs.Substitution.{substitutionTables}
+use Rattle.generator.specs.declared.Kind.{Kind}
+use Rattle.generator.specs.Registers.{Registers, EighteenWords, next, previous, iterate}
+use Rattle.generator.specs.Functions.{nextBy, previousBy}
+
+-- f keeps eighteen words such, and g undoes it there
+pub record UndoneBy (g f : Registers → Registers) : Type 0 where
+  pub keeps : (r : Registers) → EighteenWords r → EighteenWords (f r)
+  pub undone : (r : Registers) → EighteenWords r → g (f r) ≡ r
+
+-- different registers stay different
+abbrev pub OneToOne : (Registers → Registers) → Type 0
+OneToOne f = (a b : Registers) → EighteenWords a → EighteenWords b → f a ≡ f b → a ≡ b
+
+pub record GeneratorLaws : Type 0 where
+  -- a step back undoes a step, and a step undoes a step back
+  pub previous-next : (kind : Kind) → UndoneBy (previous kind) (next kind)
+  pub next-previous : (kind : Kind) → UndoneBy (next kind) (previous kind)
+  -- so do walks of n steps, for every n
+  pub back-forward : (kind : Kind) (n : ℕ) → UndoneBy (iterate (previous kind) n) (iterate (next kind) n)
+  pub forward-back : (kind : Kind) (n : ℕ) → UndoneBy (iterate (next kind) n) (iterate (previous kind) n)
+  -- and walks of n steps are one-to-one, for every n
+  pub forward-one-to-one : (kind : Kind) (n : ℕ) → OneToOne (iterate (next kind) n)
+  pub backward-one-to-one : (kind : Kind) (n : ℕ) → OneToOne (iterate (previous kind) n)
+  -- walks compose
+  pub forward-compose : (kind : Kind) (m n : ℕ) (r : Registers) → iterate (next kind) (m + n) r ≡ iterate (next kind) n (iterate (next kind) m r)
+  pub backward-compose : (kind : Kind) (m n : ℕ) (r : Registers) → iterate (previous kind) (m + n) r ≡ iterate (previous kind) n (iterate (previous kind) m r)
+  -- with the tables of T and α, the functions' steps are these
+  pub next-by-tables : nextBy substitutionTables alphaTable alphaInverseTable ≡ next
+  pub previous-by-table : previousBy alphaInverseTable ≡ previous

@@ -1,0 +1,194 @@
+// The state of the cipher: one step forward and one back, ordinary or of initialisation, and walks of n steps. Tables are lent.
+ghost use mathlib.Core.Path.{_≡_};
+ghost use mathlib.Core.List.{[], _∷_, _++_};
+ghost use lib.ListN.{drop, take};
+ghost use Rattle.generator.specs.Registers.{F, mixed};
+ghost use Rattle.generator.specs.Functions.{feedbackBy, stepBy, stepBackBy, forwardBy, backwardBy};
+use galois::alpha_inverse_times_by_table;
+use galois::alpha_times_by_table;
+use std::num::wrapping_add_u64;
+use std::num::wrapping_sub_u64;
+use substitution::substitute_word_by_tables;
+use substitution::substitute_word_inverse;
+
+// The cells s0..s15, the registers r1 and r2, the size mark and the byte position.
+pub struct State {
+    pub cells: [u64; 16],
+    pub r1: u64,
+    pub r2: u64,
+    pub size: u64,
+    pub position: u64,
+}
+
+// An ordinary step, or one of initialisation.
+pub enum Kind {
+    Ordinary,
+    Initial,
+}
+
+// The state after a step, and the keystream word of the state before it.
+pub struct Stepped {
+    pub state: State,
+    pub word: u64,
+}
+
+// ---- the parts of a step
+
+// F(x, y, z).
+fn filter(x: u64, y: u64, z: u64) -> u64
+    ensures { λ r. ⌜ r ≡ F x y z ⌝ }
+{
+    wrapping_add_u64(x, y) ^ z
+}
+
+// The word x, and F into it in a step of initialisation.
+fn mix_in(kind: Kind, f: u64, x: u64) -> u64
+    ensures { λ r. ⌜ r ≡ mixed kind f x ⌝ }
+{
+    match kind {
+        Kind::Ordinary => x,
+        Kind::Initial => x ^ f,
+    }
+}
+
+// α times s0, α inverse times s11, and s13, together.
+fn feedback(c: [u64; 16], alpha: &[u64; 256], inverse: &[u64; 256]) -> u64
+    ensures { λ r. ⌜ r ≡ feedbackBy (now (alpha .entry)) (now (inverse .entry)) c ⌝ }
+{
+    alpha_times_by_table(c[0], alpha) ^ alpha_inverse_times_by_table(c[11], inverse) ^ c[13]
+}
+
+// The cells one place on, the first one gone and x last.
+fn shift_in(c: [u64; 16], x: u64) -> [u64; 16]
+    ensures { λ r. ⌜ r ≡ drop 1 c ++ (x ∷ []) ⌝ }
+{
+    [
+        c[1],
+        c[2],
+        c[3],
+        c[4],
+        c[5],
+        c[6],
+        c[7],
+        c[8],
+        c[9],
+        c[10],
+        c[11],
+        c[12],
+        c[13],
+        c[14],
+        c[15],
+        x,
+    ]
+}
+
+// The cells one place back, x first and the last one gone.
+fn shift_out(c: [u64; 16], x: u64) -> [u64; 16]
+    ensures { λ r. ⌜ r ≡ x ∷ take 15 c ⌝ }
+{
+    [
+        x,
+        c[0],
+        c[1],
+        c[2],
+        c[3],
+        c[4],
+        c[5],
+        c[6],
+        c[7],
+        c[8],
+        c[9],
+        c[10],
+        c[11],
+        c[12],
+        c[13],
+        c[14],
+    ]
+}
+
+// ---- one step
+
+// One step by the tables that are lent: the state after it, and the keystream word of the state before it.
+pub fn step(
+    kind: Kind,
+    s: State,
+    tables: &[[u64; 256]; 8],
+    alpha: &[u64; 256],
+    inverse: &[u64; 256],
+) -> Stepped
+    ensures { λ r. ⌜ r ≡ stepBy (now (tables .entry)) (now (alpha .entry)) (now (inverse .entry)) kind s ⌝ }
+{
+    let c = s.cells;
+    let f = filter(c[15], s.r1, s.r2);
+    let last = mix_in(kind, f, feedback(c, alpha, inverse));
+    let cells = shift_in(c, last);
+    let r1 = wrapping_add_u64(s.r2, c[13]);
+    let r2 = substitute_word_by_tables(s.r1, tables);
+    Stepped {
+        state: State {
+            cells: cells,
+            r1: r1,
+            r2: r2,
+            size: s.size,
+            position: s.position,
+        },
+        word: f ^ c[0],
+    }
+}
+
+// One step back by the table that is lent.
+pub fn step_back(kind: Kind, s: State, inverse: &[u64; 256]) -> State
+    ensures { λ r. ⌜ r ≡ stepBackBy (now (inverse .entry)) kind s ⌝ }
+{
+    let c = s.cells;
+    let r1 = substitute_word_inverse(s.r2);
+    let r2 = wrapping_sub_u64(s.r1, c[12]);
+    let f = filter(c[14], r1, r2);
+    let last = mix_in(kind, f, c[15]);
+    let rest = last ^ c[12] ^ alpha_inverse_times_by_table(c[10], inverse);
+    let first = alpha_inverse_times_by_table(rest, inverse);
+    let cells = shift_out(c, first);
+    State {
+        cells: cells,
+        r1: r1,
+        r2: r2,
+        size: s.size,
+        position: s.position,
+    }
+}
+
+// ---- walks
+
+// n steps.
+pub fn forward(
+    kind: Kind,
+    s: State,
+    n: u64,
+    tables: &[[u64; 256]; 8],
+    alpha: &[u64; 256],
+    inverse: &[u64; 256],
+) -> State
+    ensures { λ r. ⌜ r ≡ forwardBy (now (tables .entry)) (now (alpha .entry)) (now (inverse .entry)) kind n s ⌝ }
+{
+    let mut t = s;
+    let mut i: u64 = 0;
+    while i < n {
+        let stepped = step(kind, t, tables, alpha, inverse);
+        t = stepped.state;
+        i += 1;
+    }
+    t
+}
+
+// n steps back.
+pub fn backward(kind: Kind, s: State, n: u64, inverse: &[u64; 256]) -> State
+    ensures { λ r. ⌜ r ≡ backwardBy (now (inverse .entry)) kind n s ⌝ }
+{
+    let mut t = s;
+    let mut i: u64 = 0;
+    while i < n {
+        t = step_back(kind, t, inverse);
+        i += 1;
+    }
+    t
+}

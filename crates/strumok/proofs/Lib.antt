@@ -1,0 +1,6 @@
+-- The proofs of strumok's laws and demands.
+pub mod Tests
+pub mod Strings
+pub mod Signed
+pub mod Moves
+pub mod Opened

@@ -1,0 +1,75 @@
+-- Where a move ends, and its answer there.
+-- Assumes nothing.
+use mathlib.Core.Path.{_≡_, refl, sym, ap, _∙_}
+use mathlib.Core.Bool.{true, false}
+use mathlib.Core.List.{List, [], _∷_}
+use Prim.Native.Nat.{ℕ, zero, suc, _+_, _-_, _/_, _<_, _≤_, zero-le}
+use native.Mathlib.Omega.{arith}
+use borrow.Author.Tests.{lt-ltb, le-ltb, ltb-false}
+use lib.Dec.{ltb}
+use lib.IntN.{ℤ, pos, negsuc, natAbs, _+ℤ_}
+use Rattle.generator.specs.declared.State.{State}
+use Rattle.generator.specs.declared.Kind.the-variants.{Ordinary}
+use Rattle.generator.specs.Registers.{registersOf, withRegisters, next, previous, iterate}
+use Rattle.strumok.specs.declared.Span.{Span}
+use Rattle.strumok.specs.declared.Answer.{Answer}
+use Rattle.strumok.specs.Refusals.{Test, limit, accepted, newPositionAbove, newPositionBelow, sizeMarkTest, positionTest, newPositionAboveTest, newPositionBelowTest, stateTests, returned}
+use Rattle.strumok.specs.Moving.{movedTo, newPosition, movingTests, moved}
+use Rattle.strumok.specs.Functions.{spanOf}
+use Rattle.strumok.proofs.Tests.{returned-first, returned-rest, returned-none, answer-refused, answer-accepted}
+
+-- ---- the walk
+
+module _ (s : State) (to : ℕ) where
+  pub moved-ahead : {t : State} → s .position / 8 ≤ to / 8 → t ≡ withRegisters s (iterate (next Ordinary) (to / 8 - s .position / 8) (registersOf s)) → record { cells = t .cells; r1 = t .r1; r2 = t .r2; size = t .size; position = to } ≡ movedTo s to
+  unfolding movedTo
+  moved-ahead h e = let z : s .position / 8 - to / 8 ≡ 0 = omega arith in rw (e, z)
+
+  pub moved-behind : {t : State} → to / 8 < s .position / 8 → t ≡ withRegisters s (iterate (previous Ordinary) (s .position / 8 - to / 8) (registersOf s)) → record { cells = t .cells; r1 = t .r1; r2 = t .r2; size = t .size; position = to } ≡ movedTo s to
+  unfolding movedTo
+  moved-behind h e = let z : to / 8 - s .position / 8 ≡ 0 = omega arith in rw (e, z)
+
+-- ---- the span of a distance
+
+pub is-back : (d : ℤ) (k : Span) → k ≡ spanOf d → k .back ≡ true → d ≡ negsuc (k .count)
+is-back (pos n) k e b = let z : _≡_ {A = ℕ} 0 1 = cc in absurd (omega arith)
+is-back (negsuc n) k e b = ap (λ (x : Span). negsuc (x .count)) (sym e)
+
+pub is-ahead : (d : ℤ) (k : Span) → k ≡ spanOf d → k .back ≡ false → d ≡ pos (k .count)
+is-ahead (pos n) k e b = ap (λ (x : Span). pos (x .count)) (sym e)
+is-ahead (negsuc n) k e b = let z : _≡_ {A = ℕ} 0 1 = cc in absurd (omega arith)
+
+pub back-below : (p n : ℕ) → p ≤ n → pos p +ℤ negsuc n ≡ negsuc (n - p)
+back-below p n h = let e : suc n - suc p ≡ n - p = omega arith in rw (lt-ltb p (suc n) (omega arith), e)
+
+pub back-to : (p n : ℕ) → n < p → pos p +ℤ negsuc n ≡ pos (p - n - 1)
+back-to p n h = let e : p - suc n ≡ p - n - 1 = omega arith in rw (le-ltb p (suc n) h, e)
+
+-- ---- the answer
+
+-- the tests of where a move ends
+abbrev endTests : State → ℤ → List Test
+endTests s d = newPositionAboveTest (newPosition s d) ∷ newPositionBelowTest (newPosition s d) ∷ []
+
+-- a well-formed state is not above the last position
+pub position-le : (s : State) → returned (stateTests s) ≡ accepted → s .position ≤ limit
+position-le s e =
+    let rest = returned-none (sizeMarkTest s) (positionTest s ∷ []) tt e .1 in
+    ltb-false limit (s .position) (returned-none (positionTest s) [] tt rest .0)
+
+pub moved-ill-formed : (s : State) (d : ℤ) {n : ℕ} → n ≡ returned (stateTests s) → (n ≡ accepted → ⊥) → record { number = n; state = s } ≡ moved s d
+moved-ill-formed s d e h = answer-refused (movingTests s d) _ s (e ∙ sym (returned-first (stateTests s) (endTests s d) (λ z. h (e ∙ z)))) h
+
+module _ (s : State) (d : ℤ) (ok : returned (stateTests s) ≡ accepted) where
+  tested : returned (movingTests s d) ≡ returned (endTests s d)
+  tested = returned-rest (stateTests s) (endTests s d) tt ok
+
+  pub moves-to : {q : ℕ} {t : State} → newPosition s d ≡ pos q → q ≤ limit → t ≡ movedTo s q → record { number = accepted; state = t } ≡ moved s d
+  moves-to {q} e h et =
+      answer-accepted (movingTests s d) _ s (tested ∙ rw (e, le-ltb limit q h, le-ltb q 0 zero-le)) (et ∙ ap (λ (to : ℤ). movedTo s (natAbs to)) (sym e))
+
+  pub moves-above : {q : ℕ} → newPosition s d ≡ pos q → limit < q → record { number = newPositionAbove; state = s } ≡ moved s d
+  moves-above {q} e h = answer-refused (movingTests s d) _ s (sym (tested ∙ rw (e, lt-ltb limit q h))) (λ z. omega arith)
+
+  pub moves-below : {k : ℕ} → newPosition s d ≡ negsuc k → record { number = newPositionBelow; state = s } ≡ moved s d
+  moves-below {k} e = answer-refused (movingTests s d) _ s (sym (tested ∙ rw e)) (λ z. omega arith)

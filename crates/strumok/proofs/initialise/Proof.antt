@@ -1,0 +1,26 @@
+-- `strumok::initialise` meets its contract: the tables are those of T and α.
+-- Assumes nothing.
+use mathlib.Core.Path.{ap, _∙_}
+use borrow.Author.Needs.{needs}
+use Rattle.generator.specs.declared.State.{State}
+use Rattle.generator.specs.declared.Kind.the-variants.{Ordinary, Initial}
+use Rattle.generator.specs.Registers.{registersOf, withRegisters, next, iterate}
+use Rattle.generator.proofs.GeneratorLaws.{forward-by-tables}
+use Rattle.strumok.specs.Loading.{initialised}
+use Rattle.strumok.proofs.initialise.Statement.{statement}
+use Rattle.strumok.proofs.initialise.Tie as tie
+
+returns : tie.Need-returns
+unfolding initialised
+returns c =
+    let f = c .before .before .before .before in
+    let i = f .before .before .before .before in
+    let a = i .before in
+    let t = a .before in
+    let by = forward-by-tables (t .substitution-tables .ensures) (a .alpha-table .ensures) (i .alpha-inverse-table .ensures) in
+    c .forward2 .ensures ∙ by Ordinary 1 (f .forward .result)
+    ∙ ap (λ (s : State). withRegisters s (iterate (next Ordinary) 1 (registersOf s))) (f .forward .ensures ∙ by Initial 32 (t .before .args .s))
+
+pub initialise-spec : {M : Type 1} → statement M
+initialise-spec =
+    tie.close (tie.spec (λ c κs. search needs) (λ c κs. search needs) (λ c κs. search needs) (λ c κs. search needs) (λ c κs. search needs) returns)

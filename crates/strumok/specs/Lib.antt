@@ -1,0 +1,6 @@
+-- The definitions that the contracts of strumok cite, its laws, the worked table and the demands.
+pub mod Loading
+pub mod Refusals
+pub mod Opening
+pub mod Moving
+pub mod Functions

@@ -1,0 +1,42 @@
+-- Document 01: opening a state from key and IV, and which key leads to a state.
+-- Assumes nothing.
+use mathlib.Core.Path.{_≡_}
+use mathlib.Core.List.{List, [], _∷_}
+use Prim.Native.Nat.{ℕ, _/_}
+use lib.ListN.{replicate}
+use Rattle.generator.specs.declared.State.{State}
+use Rattle.generator.specs.Registers.{registersOf}
+use Rattle.strumok.specs.declared.Answer.{Answer}
+use Rattle.strumok.specs.Loading.{Bytes, sizeMark, registersAt}
+use Rattle.strumok.specs.Refusals.{Test, keyLengthTest, ivLengthTest, accepted, returned, answer}
+
+-- "the blank state (all cells, registers, position and size mark 0)"
+abbrev pub blank : State
+blank = record { cells = replicate 16 0; r1 = 0; r2 = 0; size = 0; position = 0 }
+
+-- "S_0, at position 0 with size mark 8 × the key length in bytes"
+abbrev pub openedState : (key iv : List ℕ) → State
+openedState key iv =
+    record {
+      cells = registersAt key iv 0 .cells;
+      r1 = registersAt key iv 0 .r1;
+      r2 = registersAt key iv 0 .r2;
+      size = sizeMark key;
+      position = 0;
+    }
+
+-- "Opening tests 1, 2"
+abbrev pub openingTests : (key iv : List ℕ) → List Test
+openingTests key iv = keyLengthTest key ∷ ivLengthTest iv ∷ []
+
+-- "A refused opening returns the blank state"
+abbrev pub opened : (key iv : List ℕ) → Answer
+opened key iv = answer (openingTests key iv) (openedState key iv) blank
+
+-- "For a key and IV that opening accepts .. Such a key with that IV leads to a state when the state's size mark is 8 × the key length in
+-- bytes and its registers are those of S_n for n = floor(position/8)."
+pub record Leads (key iv : List ℕ) (s : State) : Type 0 where
+  pub bytes : Bytes key
+  pub opens : returned (openingTests key iv) ≡ accepted
+  pub size : s .size ≡ sizeMark key
+  pub registers : registersOf s ≡ registersAt key iv (s .position / 8)

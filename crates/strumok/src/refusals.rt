@@ -1,0 +1,25 @@
+// The last position, and the numbers that a call answers with.
+
+// The last byte position.
+pub const LIMIT: u64 = 16777216;
+
+// Not refused.
+pub const ACCEPTED: u64 = 0;
+
+// The key length is neither 32 nor 64.
+pub const KEY_LENGTH: u64 = 1;
+
+// The IV length is not 32.
+pub const IV_LENGTH: u64 = 2;
+
+// The size mark is neither 256 nor 512.
+pub const SIZE_MARK: u64 = 3;
+
+// The position is above the last one.
+pub const POSITION_ABOVE: u64 = 4;
+
+// The new position would be above the last one.
+pub const NEW_POSITION_ABOVE: u64 = 7;
+
+// The new position would be below 0.
+pub const NEW_POSITION_BELOW: u64 = 8;
