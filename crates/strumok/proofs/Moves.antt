@@ -48,7 +48,7 @@ back-to p n h = let e : p - suc n ≡ p - n - 1 = omega arith in rw (le-ltb p (s
 -- ---- the answer
 
 -- the tests of where a move ends
-abbrev endTests : State → ℤ → List Test
+abbrev pub endTests : State → ℤ → List Test
 endTests s d = newPositionAboveTest (newPosition s d) ∷ newPositionBelowTest (newPosition s d) ∷ []
 
 -- a well-formed state is not above the last position

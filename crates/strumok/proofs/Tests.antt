@@ -2,11 +2,12 @@
 -- Assumes nothing.
 use mathlib.Core.Path.{_≡_, refl, sym, _∙_}
 use mathlib.Core.Logic.{_⊎_, inl, inr}
-use mathlib.Core.Bool.{Bool, true, false, true≢false, cond, not, _&&_, _||_}
+use mathlib.Core.Bool.{Bool, true, false, true≢false, cond, not, _||_}
 use mathlib.Core.List.{List, [], _∷_, _++_}
 use Prim.Native.Nat.{ℕ}
 use borrow.Author.Tests.{eq-eqb, ne-eqb, eqb-true, eqb-false}
 use lib.Dec.{T, eqb}
+use Rattle.galois.proofs.Computed.{both}
 use Rattle.generator.specs.declared.State.{State}
 use Rattle.strumok.specs.declared.Answer.{Answer}
 use Rattle.strumok.specs.Refusals.{Test, accepted, returned, answer}
@@ -38,14 +39,14 @@ module _ (n a b : ℕ) where
 -- no test of the list has the number 0
 abbrev pub numbered : List Test → Bool
 numbered [] = true
-numbered (t ∷ ts) = not (eqb (t .number) accepted) && numbered ts
+numbered (t ∷ ts) = both (not (eqb (t .number) accepted)) (numbered ts)
 
 module _ (t : Test) (ts us : List Test) where
   first-by : (b : Bool) → ((returned ts ≡ accepted → ⊥) → returned (ts ++ us) ≡ returned ts) → (cond b (t .number) (returned ts) ≡ accepted → ⊥) → cond b (t .number) (returned (ts ++ us)) ≡ cond b (t .number) (returned ts)
   first-by true r h = refl
   first-by false r h = r h
 
-  rest-by : (b z : Bool) → eqb (t .number) accepted ≡ z → (T (numbered ts) → returned ts ≡ accepted → returned (ts ++ us) ≡ returned us) → T (not z && numbered ts) → cond b (t .number) (returned ts) ≡ accepted → cond b (t .number) (returned (ts ++ us)) ≡ returned us
+  rest-by : (b z : Bool) → eqb (t .number) accepted ≡ z → (T (numbered ts) → returned ts ≡ accepted → returned (ts ++ us) ≡ returned us) → T (both (not z) (numbered ts)) → cond b (t .number) (returned ts) ≡ accepted → cond b (t .number) (returned (ts ++ us)) ≡ returned us
   rest-by b true q r n e = absurd n
   rest-by true false q r n e = absurd (eqb-false (t .number) accepted q e)
   rest-by false false q r n e = r n e
@@ -64,7 +65,7 @@ returned-rest (t ∷ ts) us n e = rest-by t ts us (t .applies) (eqb (t .number) 
 pub returned-none : (t : Test) (ts : List Test) → T (numbered (t ∷ ts)) → returned (t ∷ ts) ≡ accepted → (t .applies ≡ false) × (returned ts ≡ accepted)
 returned-none t ts n e = by (t .applies) (eqb (t .number) accepted) refl n e
   where
-    by : (b z : Bool) → eqb (t .number) accepted ≡ z → T (not z && numbered ts) → cond b (t .number) (returned ts) ≡ accepted → (b ≡ false) × (returned ts ≡ accepted)
+    by : (b z : Bool) → eqb (t .number) accepted ≡ z → T (both (not z) (numbered ts)) → cond b (t .number) (returned ts) ≡ accepted → (b ≡ false) × (returned ts ≡ accepted)
     by b true q n e = absurd n
     by true false q n e = absurd (eqb-false (t .number) accepted q e)
     by false false q n e = (refl, e)
@@ -73,9 +74,7 @@ returned-none t ts n e = by (t .applies) (eqb (t .number) accepted) refl n e
 
 module _ (tests : List Test) (made back : State) where
   pub answer-refused : {n : ℕ} → n ≡ returned tests → (n ≡ accepted → ⊥) → _≡_ {A = Answer} (record { number = n; state = back }) (answer tests made back)
-  unfolding answer
   answer-refused {n} e h = sym (rw (← e) (rw (ne-eqb n accepted h)))
 
   pub answer-accepted : {s : State} → returned tests ≡ accepted → s ≡ made → _≡_ {A = Answer} (record { number = accepted; state = s }) (answer tests made back)
-  unfolding answer
   answer-accepted e es = sym (rw (e, es))

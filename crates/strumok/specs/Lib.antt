@@ -4,3 +4,7 @@ pub mod Refusals
 pub mod Opening
 pub mod Moving
 pub mod Functions
+pub mod LoadingLaws
+pub mod MovingLaws
+pub mod WorkedTable
+pub mod Demands

@@ -8,7 +8,7 @@ use Rattle.generator.specs.declared.State.{State}
 use Rattle.generator.specs.Registers.{registersOf}
 use Rattle.strumok.specs.declared.Answer.{Answer}
 use Rattle.strumok.specs.Loading.{Bytes, sizeMark, registersAt}
-use Rattle.strumok.specs.Refusals.{Test, keyLengthTest, ivLengthTest, accepted, returned, answer}
+use Rattle.strumok.specs.Refusals.{Test, keyLengthTest, ivLengthTest, accepted, answer}
 
 -- "the blank state (all cells, registers, position and size mark 0)"
 abbrev pub blank : State
@@ -33,10 +33,15 @@ openingTests key iv = keyLengthTest key ∷ ivLengthTest iv ∷ []
 abbrev pub opened : (key iv : List ℕ) → Answer
 opened key iv = answer (openingTests key iv) (openedState key iv) blank
 
+-- a key and an IV, strings of bytes, that opening accepts
+pub record Accepted (key iv : List ℕ) : Type 0 where
+  pub key-bytes : Bytes key
+  pub iv-bytes : Bytes iv
+  pub opens : opened key iv .number ≡ accepted
+
 -- "For a key and IV that opening accepts .. Such a key with that IV leads to a state when the state's size mark is 8 × the key length in
 -- bytes and its registers are those of S_n for n = floor(position/8)."
 pub record Leads (key iv : List ℕ) (s : State) : Type 0 where
-  pub bytes : Bytes key
-  pub opens : returned (openingTests key iv) ≡ accepted
+  pub opening : Accepted key iv
   pub size : s .size ≡ sizeMark key
   pub registers : registersOf s ≡ registersAt key iv (s .position / 8)

@@ -76,5 +76,5 @@ returned [] = accepted
 returned (t ∷ ts) = cond (t .applies) (t .number) (returned ts)
 
 -- the answer of a call with these tests: the state that it makes where none applies, and else the one that a refusal gives back
-unfoldable pub answer : List Test → (made back : State) → Answer
+abbrev pub answer : List Test → (made back : State) → Answer
 answer tests made back = record { number = returned tests; state = cond (eqb (returned tests) accepted) made back }
