@@ -5,4 +5,5 @@ pub mod Linear
 pub mod Gmul
 pub mod Bytes
 pub mod Built
+pub mod Spread
 pub mod AlphaLaws

@@ -28,7 +28,7 @@ pub power-fixed : (f : ℕ → ℕ) (n : ℕ) → FixesPowers f n → (k : ℕ) 
 power-fixed f n test k h = eqb→eq (f (2 ^ k)) (2 ^ k) (below n (λ k. eqb (f (2 ^ k)) (2 ^ k)) test k h)
 
 module _ (f : ℕ → ℕ) (linear : Linear f) where
-  zero-fixed : f 0 ≡ 0
+  pub zero-fixed : f 0 ≡ 0
   zero-fixed = linear 0 0 ∙ xor-self (f 0)
 
   multiple-fixed : (p q : ℕ) → q < 2 → f p ≡ p → f (q * p) ≡ q * p

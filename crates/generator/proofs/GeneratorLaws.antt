@@ -6,7 +6,8 @@ use Prim.Native.Nat.{ℕ}
 use Rattle.galois.specs.Words.{at}
 use Rattle.galois.specs.Alpha.{alphaTable, alphaInverseTable, alphaTimesWith, alphaInverseTimesWith, alphaTimes, alphaInverseTimes}
 use Rattle.galois.proofs.AlphaLaws.{alpha-laws}
-use Rattle.substitution.specs.Substitution.{substitutionTables, lookUp, substitute, substituteInverse}
+use Rattle.substitution.specs.Pi.{piInverse}
+use Rattle.substitution.specs.Substitution.{substitutionTables, matrixInverseTables, lookUp, lookUpThrough, substitute, substituteInverse}
 use Rattle.substitution.proofs.SubstitutionLaws.{substitution-laws}
 use Rattle.generator.specs.declared.State.{State}
 use Rattle.generator.specs.declared.Kind.{Kind}
@@ -33,6 +34,9 @@ next-previous kind =
 table-path : lookUp substitutionTables ≡ substitute
 table-path = fun-ext (substitution-laws .table-path)
 
+inverse-table-path : lookUpThrough matrixInverseTables piInverse ≡ substituteInverse
+inverse-table-path = fun-ext (substitution-laws .inverse-table-path)
+
 alpha-path : alphaTimesWith (at alphaTable) ≡ alphaTimes
 alpha-path = fun-ext (alpha-laws .alpha-by-table)
 
@@ -51,16 +55,23 @@ generator-laws =
       forward-compose = λ kind. iterate-add (next kind);
       backward-compose = λ kind. iterate-add (previous kind);
       next-by-tables =
-        ap (λ (t : ℕ → ℕ). nextWith t (alphaTimesWith (at alphaTable)) (alphaInverseTimesWith (at alphaInverseTable))) table-path
-        ∙ ap (λ (a : ℕ → ℕ). nextWith substitute a (alphaInverseTimesWith (at alphaInverseTable))) alpha-path
-        ∙ ap (nextWith substitute alphaTimes) inverse-path;
-      previous-by-table = ap (previousWith substituteInverse) inverse-path;
+          ap (λ (t : ℕ → ℕ). nextWith t (alphaTimesWith (at alphaTable)) (alphaInverseTimesWith (at alphaInverseTable))) table-path
+          ∙ ap (λ (a : ℕ → ℕ). nextWith substitute a (alphaInverseTimesWith (at alphaInverseTable))) alpha-path
+          ∙ ap (nextWith substitute alphaTimes) inverse-path;
+      previous-by-tables =
+          ap (λ (t : ℕ → ℕ). previousWith t (alphaInverseTimesWith (at alphaInverseTable))) inverse-table-path
+          ∙ ap (previousWith substituteInverse) inverse-path;
     }
 
--- ---- walks by the tables of T and α
+-- ---- walks by the tables of T, α and their inverses
 
-pub forward-by-tables : {tables : List (List ℕ)} {alpha inverse : List ℕ} → tables ≡ substitutionTables → alpha ≡ alphaTable → inverse ≡ alphaInverseTable → (kind : Kind) (n : ℕ) (s : State) → forwardBy tables alpha inverse kind n s ≡ withRegisters s (iterate (next kind) n (registersOf s))
-forward-by-tables et ea ei kind n s = rw (et, ea, ei) (ap (λ (f : Kind → Registers → Registers). withRegisters s (iterate (f kind) n (registersOf s))) (generator-laws .next-by-tables))
+abbrev walked : (Kind → Registers → Registers) → Kind → ℕ → State → State
+walked f kind n s = withRegisters s (iterate (f kind) n (registersOf s))
 
-pub backward-by-table : {inverse : List ℕ} → inverse ≡ alphaInverseTable → (kind : Kind) (n : ℕ) (s : State) → backwardBy inverse kind n s ≡ withRegisters s (iterate (previous kind) n (registersOf s))
-backward-by-table ei kind n s = rw ei (ap (λ (f : Kind → Registers → Registers). withRegisters s (iterate (f kind) n (registersOf s))) (generator-laws .previous-by-table))
+pub forward-by-tables : {tables : List (List ℕ)} {alpha inverse : List ℕ} → tables ≡ substitutionTables → alpha ≡ alphaTable → inverse ≡ alphaInverseTable
+    → (kind : Kind) (n : ℕ) (s : State) → forwardBy tables alpha inverse kind n s ≡ withRegisters s (iterate (next kind) n (registersOf s))
+forward-by-tables et ea ei kind n s = rw (et, ea, ei) (ap (λ (f : Kind → Registers → Registers). walked f kind n s) (generator-laws .next-by-tables))
+
+pub backward-by-tables : {columns bytes : List (List ℕ)} {inverse : List ℕ} → columns ≡ matrixInverseTables → bytes ≡ piInverse → inverse ≡ alphaInverseTable
+    → (kind : Kind) (n : ℕ) (s : State) → backwardBy columns bytes inverse kind n s ≡ withRegisters s (iterate (previous kind) n (registersOf s))
+backward-by-tables ec eb ei kind n s = rw (ec, eb, ei) (ap (λ (f : Kind → Registers → Registers). walked f kind n s) (generator-laws .previous-by-tables))

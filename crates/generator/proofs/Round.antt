@@ -42,7 +42,6 @@ module _ {t tInverse alpha alphaInverse : ℕ → ℕ}
     (inverse-t : UndoesWord tInverse t) (t-inverse : UndoesWord t tInverse)
     (inverse-alpha : UndoesWord alphaInverse alpha) (alpha-inverse : UndoesWord alpha alphaInverse)
     (kind : Kind) (r : Registers) (w : EighteenWords r) where
-
   -- ---- forward, then back
 
   abbrev f : ℕ

@@ -1,11 +1,11 @@
 -- What the functions over lent tables hand over: the steps of specs/Registers.antt with words looked up in those tables.
--- Where the tables are those of T and α, these are the steps of the cipher: law `by-tables` of specs/GeneratorLaws.antt.
+-- Where the tables are those of T and α, these are the steps of the cipher: laws `next-by-tables` and `previous-by-tables` of specs/GeneratorLaws.antt.
 -- Assumes nothing.
 use mathlib.Core.List.{List}
 use Prim.Native.Nat.{ℕ}
 use Rattle.galois.specs.Words.{at}
 use Rattle.galois.specs.Alpha.{alphaTimesWith, alphaInverseTimesWith}
-use Rattle.substitution.specs.Substitution.{substituteInverse, lookUp}
+use Rattle.substitution.specs.Substitution.{lookUp, lookUpThrough}
 use Rattle.generator.specs.declared.State.{State}
 use Rattle.generator.specs.declared.Stepped.{Stepped}
 use Rattle.generator.specs.declared.Kind.{Kind}
@@ -17,20 +17,21 @@ feedbackBy alpha alphaInverse = feedbackWith (alphaTimesWith (at alpha)) (alphaI
 abbrev pub nextBy : (tables : List (List ℕ)) (alpha alphaInverse : List ℕ) → Kind → Registers → Registers
 nextBy tables alpha alphaInverse = nextWith (lookUp tables) (alphaTimesWith (at alpha)) (alphaInverseTimesWith (at alphaInverse))
 
-abbrev pub previousBy : (alphaInverse : List ℕ) → Kind → Registers → Registers
-previousBy alphaInverse = previousWith substituteInverse (alphaInverseTimesWith (at alphaInverse))
+-- back: T inverted through tables of a matrix, then tables of bytes
+abbrev pub previousBy : (columns bytes : List (List ℕ)) (alphaInverse : List ℕ) → Kind → Registers → Registers
+previousBy columns bytes alphaInverse = previousWith (lookUpThrough columns bytes) (alphaInverseTimesWith (at alphaInverse))
 
 -- the state after a step, and the keystream word of the state before it
 abbrev pub stepBy : (tables : List (List ℕ)) (alpha alphaInverse : List ℕ) → Kind → State → Stepped
 stepBy tables alpha alphaInverse kind s =
     record { state = withRegisters s (nextBy tables alpha alphaInverse kind (registersOf s)); word = keystreamWord (registersOf s) }
 
-abbrev pub stepBackBy : (alphaInverse : List ℕ) → Kind → State → State
-stepBackBy alphaInverse kind s = withRegisters s (previousBy alphaInverse kind (registersOf s))
+abbrev pub stepBackBy : (columns bytes : List (List ℕ)) (alphaInverse : List ℕ) → Kind → State → State
+stepBackBy columns bytes alphaInverse kind s = withRegisters s (previousBy columns bytes alphaInverse kind (registersOf s))
 
 -- n steps, and n steps back
 abbrev pub forwardBy : (tables : List (List ℕ)) (alpha alphaInverse : List ℕ) → Kind → ℕ → State → State
 forwardBy tables alpha alphaInverse kind n s = withRegisters s (iterate (nextBy tables alpha alphaInverse kind) n (registersOf s))
 
-abbrev pub backwardBy : (alphaInverse : List ℕ) → Kind → ℕ → State → State
-backwardBy alphaInverse kind n s = withRegisters s (iterate (previousBy alphaInverse kind) n (registersOf s))
+abbrev pub backwardBy : (columns bytes : List (List ℕ)) (alphaInverse : List ℕ) → Kind → ℕ → State → State
+backwardBy columns bytes alphaInverse kind n s = withRegisters s (iterate (previousBy columns bytes alphaInverse kind) n (registersOf s))

@@ -4,7 +4,8 @@
 use mathlib.Core.Path.{_≡_}
 use Prim.Native.Nat.{ℕ, _+_}
 use Rattle.galois.specs.Alpha.{alphaTable, alphaInverseTable}
-use Rattle.substitution.specs.Substitution.{substitutionTables}
+use Rattle.substitution.specs.Pi.{piInverse}
+use Rattle.substitution.specs.Substitution.{substitutionTables, matrixInverseTables}
 use Rattle.generator.specs.declared.Kind.{Kind}
 use Rattle.generator.specs.Registers.{Registers, EighteenWords, next, previous, iterate}
 use Rattle.generator.specs.Functions.{nextBy, previousBy}
@@ -31,6 +32,6 @@ pub record GeneratorLaws : Type 0 where
   -- walks compose
   pub forward-compose : (kind : Kind) (m n : ℕ) (r : Registers) → iterate (next kind) (m + n) r ≡ iterate (next kind) n (iterate (next kind) m r)
   pub backward-compose : (kind : Kind) (m n : ℕ) (r : Registers) → iterate (previous kind) (m + n) r ≡ iterate (previous kind) n (iterate (previous kind) m r)
-  -- with the tables of T and α, the functions' steps are these
+  -- with the tables of T, α and their inverses, the functions' steps are these
   pub next-by-tables : nextBy substitutionTables alphaTable alphaInverseTable ≡ next
-  pub previous-by-table : previousBy alphaInverseTable ≡ previous
+  pub previous-by-tables : previousBy matrixInverseTables piInverse alphaInverseTable ≡ previous

@@ -9,7 +9,7 @@ use galois::alpha_times_by_table;
 use std::num::wrapping_add_u64;
 use std::num::wrapping_sub_u64;
 use substitution::substitute_word_by_tables;
-use substitution::substitute_word_inverse;
+use substitution::substitute_word_inverse_by_tables;
 
 // The cells s0..s15, the registers r1 and r2, the size mark and the byte position.
 pub struct State {
@@ -136,12 +136,18 @@ pub fn step(
     }
 }
 
-// One step back by the table that is lent.
-pub fn step_back(kind: Kind, s: State, inverse: &[u64; 256]) -> State
-    ensures { λ r. ⌜ r ≡ stepBackBy (now (inverse .entry)) kind s ⌝ }
+// One step back by the tables that are lent.
+pub fn step_back(
+    kind: Kind,
+    s: State,
+    columns: &[[u64; 256]; 8],
+    bytes: &[[u8; 256]; 4],
+    inverse: &[u64; 256],
+) -> State
+    ensures { λ r. ⌜ r ≡ stepBackBy (now (columns .entry)) (now (bytes .entry)) (now (inverse .entry)) kind s ⌝ }
 {
     let c = s.cells;
-    let r1 = substitute_word_inverse(s.r2);
+    let r1 = substitute_word_inverse_by_tables(s.r2, columns, bytes);
     let r2 = wrapping_sub_u64(s.r1, c[12]);
     let f = filter(c[14], r1, r2);
     let last = mix_in(kind, f, c[15]);
@@ -181,13 +187,20 @@ pub fn forward(
 }
 
 // n steps back.
-pub fn backward(kind: Kind, s: State, n: u64, inverse: &[u64; 256]) -> State
-    ensures { λ r. ⌜ r ≡ backwardBy (now (inverse .entry)) kind n s ⌝ }
+pub fn backward(
+    kind: Kind,
+    s: State,
+    n: u64,
+    columns: &[[u64; 256]; 8],
+    bytes: &[[u8; 256]; 4],
+    inverse: &[u64; 256],
+) -> State
+    ensures { λ r. ⌜ r ≡ backwardBy (now (columns .entry)) (now (bytes .entry)) (now (inverse .entry)) kind n s ⌝ }
 {
     let mut t = s;
     let mut i: u64 = 0;
     while i < n {
-        t = step_back(kind, t, inverse);
+        t = step_back(kind, t, columns, bytes, inverse);
         i += 1;
     }
     t

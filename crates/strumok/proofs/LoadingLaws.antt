@@ -86,7 +86,7 @@ module _ (size : ℕ) (key iv key′ iv′ : List ℕ) (z : sizeMark key ≡ siz
       let a = map (loadedCell (wordOf key) (wordOf iv)) (rowsOf size) in
       let b = map (loadedCell (wordOf key′) (wordOf iv′)) (rowsOf size) in
       let cells : reverse a ≡ reverse b =
-          ap (λ (n : ℕ). loadedCells (rowsOf n) (wordOf key) (wordOf iv)) (sym z) ∙ ap (λ (r : Registers). r .cells) e ∙ ap (λ (n : ℕ). loadedCells (rowsOf n) (wordOf key′) (wordOf iv′)) z′ in
+      ap (λ (n : ℕ). loadedCells (rowsOf n) (wordOf key) (wordOf iv)) (sym z) ∙ ap (λ (r : Registers). r .cells) e ∙ ap (λ (n : ℕ). loadedCells (rowsOf n) (wordOf key′) (wordOf iv′)) z′ in
       sym (reverse-reverse a) ∙ ap reverse cells ∙ reverse-reverse b
 
 one-to-one-in-key : (key key′ iv : List ℕ) → Accepted key iv → Accepted key′ iv → sizeMark key ≡ sizeMark key′ → load key iv ≡ load key′ iv → key ≡ key′
@@ -104,8 +104,7 @@ one-to-one-in-key key key′ iv o o′ z e =
 one-to-one-in-both : (key iv key′ iv′ : List ℕ) → Accepted key iv → Accepted key′ iv′ → sizeMark key ≡ 256 → sizeMark key′ ≡ 256 → load key iv ≡ load key′ iv′ → (key ≡ key′) × (iv ≡ iv′)
 one-to-one-in-both key iv key′ iv′ o o′ z z′ e =
     let rows = same-rows 256 key iv key′ iv′ z z′ e in
-    let words = same-key (wordOf key) (wordOf iv) (wordOf key′) (wordOf iv′) (rowsOf 256) rows false 4 keys-found-alone (λ t j. absurd t) in
-    (
+    let words = same-key (wordOf key) (wordOf iv) (wordOf key′) (wordOf iv′) (rowsOf 256) rows false 4 keys-found-alone (λ t j. absurd t) in (
       string-ext 4 key key′ (omega arith) (omega arith) (o .key-bytes) (o′ .key-bytes) words,
       string-ext 4 iv iv′ (iv-length o) (iv-length o′) (o .iv-bytes) (o′ .iv-bytes) (same-iv (wordOf key) (wordOf iv) (wordOf key′) (wordOf iv′) (rowsOf 256) rows 4 4 ivs-found words),
     )

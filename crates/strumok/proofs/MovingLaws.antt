@@ -74,7 +74,7 @@ there-and-back s d w e =
     let end = ends s d e in
     let t = movedTo s (end .to) in
     let back : newPosition t (negℤ d) ≡ pos (s .position) =
-        ap (λ (p : ℕ). pos p +ℤ negℤ d) (position-moved s (end .to)) ∙ ap (λ (z : ℤ). z +ℤ negℤ d) (sym (end .there)) ∙ +ℤ-negℤ-cancel (pos (s .position)) d in
+    ap (λ (p : ℕ). pos p +ℤ negℤ d) (position-moved s (end .to)) ∙ ap (λ (z : ℤ). z +ℤ negℤ d) (sym (end .there)) ∙ +ℤ-negℤ-cancel (pos (s .position)) d in
     let low = ltb-false limit (s .position) (returned-none (positionTest s) [] tt (returned-none (sizeMarkTest s) (positionTest s ∷ []) tt (end .well-formed) .1) .0) in
     ap (λ (x : State). moved x (negℤ d)) (moved-state s d e)
     ∙ sym (moves-to t (negℤ d) (moved-well-formed s (end .to) (end .well-formed) (end .low)) back low (sym (moved-moved s (end .to) (s .position) w ∙ moved-here s)))

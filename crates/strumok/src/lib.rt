@@ -10,6 +10,7 @@ ghost use Rattle.strumok.specs.Refusals.{stateTests, returned};
 ghost use Rattle.strumok.specs.Opening.{blank, openingTests, opened};
 ghost use Rattle.strumok.specs.Moving.{movedTo, moved};
 ghost use Rattle.strumok.specs.Functions.{spanOf};
+use columns::matrix_inverse_tables;
 use columns::substitution_tables;
 use galois::alpha_inverse_table;
 use galois::alpha_table;
@@ -18,6 +19,7 @@ use generator::Kind;
 use generator::State;
 use generator::backward;
 use generator::forward;
+use substitution::pi_inverse_tables;
 
 mod refusals;
 
@@ -60,7 +62,12 @@ fn word_of(string: &[u8], i: usize) -> u64
 fn four_words(string: &[u8]) -> [u64; 4]
     ensures { λ r. ⌜ r ≡ tabulate 4 (wordOf (now (string .entry))) ⌝ }
 {
-    [word_of(string, 0), word_of(string, 1), word_of(string, 2), word_of(string, 3)]
+    [
+        word_of(string, 0),
+        word_of(string, 1),
+        word_of(string, 2),
+        word_of(string, 3),
+    ]
 }
 
 // Words 0 to 7 of a string.
@@ -164,7 +171,13 @@ fn opening_number(key: &[u8], iv: &[u8]) -> u64
 {
     let n = key.len();
     match n {
-        32 | 64 => { if iv.len() == 32 { refusals::ACCEPTED } else { refusals::IV_LENGTH } }
+        32 | 64 => {
+            if iv.len() == 32 {
+                refusals::ACCEPTED
+            } else {
+                refusals::IV_LENGTH
+            }
+        }
         _ => refusals::KEY_LENGTH,
     }
 }
@@ -215,7 +228,13 @@ fn state_number(s: State) -> u64
 {
     let size = s.size;
     match size {
-        256 | 512 => { if s.position > refusals::LIMIT { refusals::POSITION_ABOVE } else { refusals::ACCEPTED } }
+        256 | 512 => {
+            if s.position > refusals::LIMIT {
+                refusals::POSITION_ABOVE
+            } else {
+                refusals::ACCEPTED
+            }
+        }
         _ => refusals::SIZE_MARK,
     }
 }
@@ -253,12 +272,14 @@ fn walk_on(s: State, n: u64) -> State
     forward(Kind::Ordinary, s, n, &tables, &alpha, &inverse)
 }
 
-// n ordinary steps back, the table taken once.
+// n ordinary steps back, the tables taken once.
 fn walk_back(s: State, n: u64) -> State
     ensures { λ r. ⌜ r ≡ withRegisters s (iterate (previous Ordinary) n (registersOf s)) ⌝ }
 {
+    let columns = matrix_inverse_tables();
+    let bytes = pi_inverse_tables();
     let inverse = alpha_inverse_table();
-    backward(Kind::Ordinary, s, n, &inverse)
+    backward(Kind::Ordinary, s, n, &columns, &bytes, &inverse)
 }
 
 // The state at another position, its registers walked to that position's word.

@@ -6,7 +6,10 @@ use Prim.Native.Nat.{ℕ, _<_}
 use lib.ListN.{getD}
 use Rattle.galois.specs.Words.{byte, word, tabulate, at}
 use Rattle.galois.specs.Field.{gmul}
-use Rattle.galois.proofs.Bytes.{tabulate-at, byte-lt, byte-word}
+use Rattle.galois.proofs.Linear.{Linear}
+use Rattle.galois.proofs.Gmul.{gmul-linear}
+use Rattle.galois.proofs.Bytes.{tabulate-at, byte-lt, byte-word, word-ext, word-linear}
+use Rattle.galois.proofs.Spread.{tabulate-ext, spread, spread-is}
 use Rattle.substitution.specs.Matrix.{circulant, rowTimes, circulantTimes}
 use Rattle.substitution.specs.Substitution.{columnTimes, columnEntry, columnTables, lookUp}
 use Rattle.substitution.proofs.XorSum.{xorSum-ext, word-xorSum}
@@ -25,3 +28,31 @@ module _ (row : List ℕ) (b : ByteRow row) (f : ℕ → ℕ → ℕ) (bytes : (
       xorSum-ext 8 (λ j. at (getD (columnTables row f) j []) (byte w j)) (λ j. columnTimes row j (byte v j))
       (λ j l. entry-at j (byte w j) l (byte-lt w j) ∙ ap (columnTimes row j) (sym (byte-word 8 (λ j. f j (byte w j)) (λ j. bytes j (byte w j) (byte-lt w j)) j l)))
       ∙ sym (word-xorSum 8 8 (λ i j. gmul (circulant row i j) (byte v j)) (λ i j. term-lt row b i j (byte v j)))
+
+-- ---- the same tables, worked out from the columns at the powers of two
+
+-- entries of a table at the places f 0, .., f 255
+abbrev pub entriesAt : List ℕ → (ℕ → ℕ) → List ℕ
+entriesAt table f = tabulate 256 (λ c. at table (f c))
+
+abbrev pub spreadTables : List ℕ → (ℕ → ℕ → ℕ) → List (List ℕ)
+spreadTables row f = tabulate 8 (λ j. entriesAt (spread (columnTimes row j) 8) (f j))
+
+module _ (row : List ℕ) (b : ByteRow row) (f : ℕ → ℕ → ℕ) (bytes : (j c : ℕ) → c < 256 → f j c < 256) where
+  column-linear : (j : ℕ) → Linear (columnTimes row j)
+  column-linear j = word-linear 8 (λ i. gmul (circulant row i j)) (λ i. gmul-linear (circulant row i j)) (λ i x. term-lt row b i j x)
+
+  pub spread-tables : spreadTables row f ≡ columnTables row f
+  unfolding columnTables
+  spread-tables =
+      tabulate-ext 8 (λ j. entriesAt (spread (columnTimes row j) 8) (f j)) (λ j. tabulate 256 (columnEntry row f j))
+      (λ j hj. ap (λ (t : List ℕ). entriesAt t (f j)) (spread-is (columnTimes row j) (column-linear j) 8)
+      ∙ tabulate-ext 256 (λ c. at (tabulate 256 (columnTimes row j)) (f j c)) (columnEntry row f j) (λ c hc. tabulate-at 0 256 (columnTimes row j) (f j c) (bytes j c hc)))
+
+-- a matrix takes of a word its eight bytes, and nothing else
+pub circulant-bytes : (row : List ℕ) (w : ℕ) → circulantTimes row (word 8 (byte w)) ≡ circulantTimes row w
+unfolding circulantTimes rowTimes
+circulant-bytes row w =
+    word-ext 8 (λ i. rowTimes row i (word 8 (byte w))) (λ i. rowTimes row i w)
+    (λ i hi. xorSum-ext 8 (λ j. gmul (circulant row i j) (byte (word 8 (byte w)) j)) (λ j. gmul (circulant row i j) (byte w j))
+    (λ j hj. ap (gmul (circulant row i j)) (byte-word 8 (byte w) (byte-lt w) j hj)))

@@ -1,6 +1,6 @@
 -- The laws of π, M and T that specs/SubstitutionLaws.antt states.
 -- Assumes nothing.
-use mathlib.Core.Path.{refl}
+use mathlib.Core.Path.{refl, ap, _∙_}
 use Rattle.galois.specs.Words.{UndoesWord}
 use Rattle.galois.specs.Field.{gmul}
 use Rattle.galois.proofs.Linear.{undoes-after}
@@ -10,7 +10,7 @@ use Rattle.substitution.specs.Substitution.{substitute, substituteInvers
 use Rattle.substitution.specs.SubstitutionLaws.{SubstitutionLaws}
 use Rattle.substitution.proofs.ThroughLaws.{sent-lt, undoes-through, inverse-pi, pi-inverse}
 use Rattle.substitution.proofs.Rotation.{undoes-circulant}
-use Rattle.substitution.proofs.ColumnLaws.{columns-circulant}
+use Rattle.substitution.proofs.ColumnLaws.{columns-circulant, circulant-bytes}
 
 inverse-matrix : UndoesWord (circulantTimes matrixInverseRow) (circulantTimes matrixRow)
 unfolding circulantTimes rowTimes gmul
@@ -32,4 +32,5 @@ substitution-laws =
       inverse-substitute = undoes-after (through piInverse) (circulantTimes matrixInverseRow) (circulantTimes matrixRow) (through pi) inverse-matrix (undoes-through piInverse pi inverse-pi);
       substitute-inverse = undoes-after (circulantTimes matrixRow) (through pi) (through piInverse) (circulantTimes matrixInverseRow) (undoes-through pi piInverse pi-inverse) matrix-inverse;
       table-path = λ w. columns-circulant matrixRow tt (sent pi) (sent-lt piInverse pi inverse-pi) w;
+      inverse-table-path = λ w. ap (through piInverse) (columns-circulant matrixInverseRow tt (λ j c. c) (λ j c h. h) w ∙ circulant-bytes matrixInverseRow w);
     }

@@ -32,6 +32,14 @@ columnTables row f = tabulate 8 (λ j. tabulate 256 (columnEntry row f j))
 abbrev pub substitutionTables : List (List ℕ)
 substitutionTables = columnTables matrixRow (sent pi)
 
+-- the tables of the inverse matrix: column j, times the byte itself
+abbrev pub matrixInverseTables : List (List ℕ)
+matrixInverseTables = columnTables matrixInverseRow (λ j c. c)
+
 -- the entries of eight tables at the bytes of w, together: T_0[w_0] ⊕ .. ⊕ T_7[w_7]
 unfoldable pub lookUp : List (List ℕ) → ℕ → ℕ
 lookUp tables w = xorSum 8 (λ j. at (getD tables j []) (byte w j))
+
+-- the same of the tables of a matrix, and then each byte through its table: T inverted, where these are the tables of its two halves
+abbrev pub lookUpThrough : (columns bytes : List (List ℕ)) → ℕ → ℕ
+lookUpThrough columns bytes w = through bytes (lookUp columns w)

@@ -7,7 +7,7 @@ use lib.ListN.{getD, take}
 use Rattle.galois.specs.Words.{at, UndoesWord}
 use Rattle.substitution.specs.Pi.{pi, piInverse}
 use Rattle.substitution.specs.Matrix.{matrixRow, matrixInverseRow, circulantTimes}
-use Rattle.substitution.specs.Substitution.{substitute, substituteInverse, substitutionTables, lookUp}
+use Rattle.substitution.specs.Substitution.{substitute, substituteInverse, substitutionTables, matrixInverseTables, lookUp, lookUpThrough}
 
 -- the table p sends each byte to a byte, and q sends that back
 abbrev pub UndoesByte : (q p : List ℕ) → Type 0
@@ -29,3 +29,5 @@ pub record SubstitutionLaws : Type 0 where
   pub substitute-inverse : UndoesWord substitute substituteInverse
   -- "The table path equals the plain one on every word": and on every number
   pub table-path : (w : ℕ) → lookUp substitutionTables w ≡ substitute w
+  -- so does the inverse by the tables of the inverse matrix, then those of the inverse of π
+  pub inverse-table-path : (w : ℕ) → lookUpThrough matrixInverseTables piInverse w ≡ substituteInverse w

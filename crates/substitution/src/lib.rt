@@ -3,7 +3,7 @@ ghost use mathlib.Core.Path.{_≡_};
 ghost use Prim.Native.Nat.{_<_};
 ghost use Rattle.substitution.specs.Pi.{pi, piInverse, through};
 ghost use Rattle.substitution.specs.Matrix.{matrixRow, matrixInverseRow, rowTimes, circulantTimes};
-ghost use Rattle.substitution.specs.Substitution.{substitute, substituteInverse, lookUp};
+ghost use Rattle.substitution.specs.Substitution.{substitute, substituteInverse, lookUp, lookUpThrough};
 
 mod tables;
 
@@ -111,4 +111,15 @@ pub fn substitute_word_by_tables(w: u64, tables: &[[u64; 256]; 8]) -> u64
         ^ tables[5][((w >> 40) % 256) as usize]
         ^ tables[6][((w >> 48) % 256) as usize]
         ^ tables[7][((w >> 56) % 256) as usize]
+}
+
+// T inverted through the tables that are lent: eight of the inverse of M, then four of the inverse of π.
+pub fn substitute_word_inverse_by_tables(
+    w: u64,
+    columns: &[[u64; 256]; 8],
+    bytes: &[[u8; 256]; 4],
+) -> u64
+    ensures { λ r. ⌜ r ≡ lookUpThrough (now (columns .entry)) (now (bytes .entry)) w ⌝ }
+{
+    through_tables(substitute_word_by_tables(w, columns), bytes)
 }

@@ -1,14 +1,18 @@
--- `columns::substitution_tables` meets its contract: antt computes the rule at all 2,048 entries and compares.
+-- `columns::substitution_tables` meets its contract: antt works the rule's tables out from the columns at the powers of two, and compares all
+-- 2,048 entries.
 -- Assumes nothing.
-use mathlib.Core.Path.{refl}
+use mathlib.Core.Path.{refl, _∙_}
 use Rattle.galois.specs.Field.{gmul}
-use Rattle.substitution.specs.Substitution.{columnTables}
+use Rattle.substitution.specs.Pi.{pi, piInverse, sent}
+use Rattle.substitution.specs.Matrix.{matrixRow}
+use Rattle.substitution.proofs.ThroughLaws.{sent-lt, inverse-pi}
+use Rattle.substitution.proofs.ColumnLaws.{spreadTables, spread-tables}
 use Rattle.columns.proofs.substitution_tables.Statement.{statement}
 use Rattle.columns.proofs.substitution_tables.Tie as tie
 
 returns : tie.Need-returns
-unfolding gmul columnTables
-returns c = refl
+unfolding gmul
+returns c = _∙_ {b = spreadTables matrixRow (sent pi)} refl (spread-tables matrixRow tt (sent pi) (sent-lt piInverse pi inverse-pi))
 
 pub substitution-tables-spec : {M : Type 1} → statement M
 substitution-tables-spec = tie.close (tie.spec returns)

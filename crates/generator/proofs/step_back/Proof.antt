@@ -15,7 +15,7 @@ returns c =
     let r = registersOf (start .args .s) in
     let w = known (start .args .s) (start .good .1 .0) in
     let r2 = difference-is (r .r1) (cell r 12) (w .r1-lt) (w .cell-lt 12) (k .ok) (k .ensures) in
-    simp (c .shift-out .ensures, c .before .alpha-inverse-times-by-table2 .ensures, c .before .before .alpha-inverse-times-by-table .ensures, m .mix-in .ensures, m .before .filter .ensures, r2, m .before .before .before .substitute-word-inverse .ensures)
+    simp (c .shift-out .ensures, c .before .alpha-inverse-times-by-table2 .ensures, c .before .before .alpha-inverse-times-by-table .ensures, m .mix-in .ensures, m .before .filter .ensures, r2, m .before .before .before .substitute-word-inverse-by-tables .ensures)
 
 pub step-back-spec : {M : Type 1} → statement M
 step-back-spec =
