@@ -4,7 +4,7 @@ use mathlib.Core.Path.{_≡_, refl, sym, ap, _∙_}
 use mathlib.Core.List.{List, [], _∷_, _++_}
 use Prim.Native.Nat.{ℕ, zero, suc, _+_, _≤_, _<_}
 use native.Mathlib.Omega.{arith}
-use lib.ListN.{length, getD, take, drop, length-drop, List·getD-append}
+use lib.ListN.{length, take, drop, length-drop, List·getD-append}
 use lib.Seq.{getD-drop, getD-at, take-at, drop-cons, take-suc, take-all}
 use Rattle.galois.specs.Words.{at}
 

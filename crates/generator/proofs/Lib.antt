@@ -1,5 +1,4 @@
 -- The proofs of generator's laws.
-pub mod Known
 pub mod Cells
 pub mod Sums
 pub mod Round

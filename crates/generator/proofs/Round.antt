@@ -1,13 +1,13 @@
 -- A step back undoes a step, and a step undoes a step back: for both kinds, and for any maps in the place of T and the products with α
 -- and its inverse that undo each other on words.
 -- Assumes nothing.
-use mathlib.Core.Path.{_≡_, refl, sym, ap, ap₂, _∙_}
+use mathlib.Core.Path.{_≡_, refl, ap, _∙_}
 use mathlib.Core.List.{List, [], _∷_}
-use Prim.Native.Nat.{ℕ, suc, _+_, _%_, _^_, _<_}
+use Prim.Native.Nat.{ℕ, suc, _+_, _^_, _<_}
 use native.Mathlib.Nat.{mod-lt}
 use native.Mathlib.Omega.{arith}
 use lib.Dec.{lit<}
-use lib.ListN.{length, take, drop, length-append, length-take, length-drop}
+use lib.ListN.{take, drop, length-append, length-take, length-drop}
 use lib.Seq.{getD-take}
 use lib.Bits.{bitXor, xor-lt}
 use Rattle.galois.specs.Words.{at, UndoesWord}
@@ -15,7 +15,6 @@ use Rattle.galois.proofs.Xor.{xor-cancel-r}
 use Rattle.generator.specs.declared.Kind.{Kind}
 use Rattle.generator.specs.declared.Kind.the-variants.{Ordinary, Initial}
 use Rattle.generator.specs.Registers.{Registers, EighteenWords, cell, sum, F, mixed, feedbackWith, nextWith, earlierR1, earlierR2, earlierAlphaS0, previousWith}
-use Rattle.generator.specs.GeneratorLaws.{UndoneBy}
 use Rattle.generator.proofs.Cells.{shift-in-last, shift-in-at, shift-in-rest, first-rest, rest-last, append-lt, take-lt, cons-lt, drop-lt}
 use Rattle.generator.proofs.Sums.{difference-sum, sum-difference}
 

@@ -1,7 +1,7 @@
 -- Sums and differences of words, without the carry.
 -- Assumes nothing.
 use mathlib.Core.Path.{_≡_}
-use Prim.Native.Nat.{ℕ, _+_, _%_, _^_, _<_}
+use Prim.Native.Nat.{ℕ, _^_, _<_}
 use native.Mathlib.Omega.{arith}
 use Rattle.generator.specs.Registers.{sum, difference}
 
@@ -11,7 +11,3 @@ module _ (a b : ℕ) (ha : a < 2 ^ 64) (hb : b < 2 ^ 64) where
 
   pub sum-difference : sum (difference a b) b ≡ a
   sum-difference = omega arith
-
-  -- a word to which b is added to give a is the difference
-  pub difference-is : {r : ℕ} → r < 2 ^ 64 → sum r b ≡ a → r ≡ difference a b
-  difference-is h e = omega arith

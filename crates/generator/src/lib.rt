@@ -2,7 +2,7 @@
 ghost use mathlib.Core.Path.{_≡_};
 ghost use mathlib.Core.List.{[], _∷_, _++_};
 ghost use lib.ListN.{drop, take};
-ghost use Rattle.generator.specs.Registers.{F, mixed};
+ghost use Rattle.generator.specs.Registers.{F, difference, mixed};
 ghost use Rattle.generator.specs.Functions.{feedbackBy, stepBy, stepBackBy, forwardBy, backwardBy};
 use galois::alpha_inverse_times_by_table;
 use galois::alpha_times_by_table;
@@ -39,6 +39,13 @@ fn filter(x: u64, y: u64, z: u64) -> u64
     ensures { λ r. ⌜ r ≡ F x y z ⌝ }
 {
     wrapping_add_u64(x, y) ^ z
+}
+
+// The word to which b is added to give a.
+fn subtract(a: u64, b: u64) -> u64
+    ensures { λ r. ⌜ r ≡ difference a b ⌝ }
+{
+    wrapping_sub_u64(a, b)
 }
 
 // The word x, and F into it in a step of initialisation.
@@ -122,8 +129,8 @@ pub fn step(
     let f = filter(c[15], s.r1, s.r2);
     let last = mix_in(kind, f, feedback(c, alpha, inverse));
     let cells = shift_in(c, last);
-    let r1 = wrapping_add_u64(s.r2, c[13]);
     let r2 = substitute_word_by_tables(s.r1, tables);
+    let r1 = wrapping_add_u64(s.r2, c[13]);
     Stepped {
         state: State {
             cells: cells,
@@ -148,7 +155,7 @@ pub fn step_back(
 {
     let c = s.cells;
     let r1 = substitute_word_inverse_by_tables(s.r2, columns, bytes);
-    let r2 = wrapping_sub_u64(s.r1, c[12]);
+    let r2 = subtract(s.r1, c[12]);
     let f = filter(c[14], r1, r2);
     let last = mix_in(kind, f, c[15]);
     let rest = last ^ c[12] ^ alpha_inverse_times_by_table(c[10], inverse);

@@ -13,10 +13,9 @@ use lib.ListN.{length}
 use lib.Signed.{ltZ, _<ℤ_}
 use Rattle.galois.proofs.Computed.{both-right}
 use Rattle.generator.specs.declared.State.{State}
-use Rattle.strumok.specs.declared.Answer.{Answer}
-use Rattle.strumok.specs.Refusals.{Test, limit, accepted, returned, answer, keyLengthTest, ivLengthTest, sizeMarkTest, positionTest, newPositionAboveTest, newPositionBelowTest}
-use Rattle.strumok.specs.Opening.{blank, openedState, openingTests, opened}
-use Rattle.strumok.specs.Moving.{movedTo, newPosition, movingTests, moved}
+use Rattle.strumok.specs.Refusals.{Test, limit, accepted, returned, answer}
+use Rattle.strumok.specs.Opening.{blank, openedState, openingTests}
+use Rattle.strumok.specs.Moving.{newPosition, movingTests}
 use Rattle.strumok.specs.Demands.{Line, openingLines, movingLines, Returned, NoneApplies, RefusesExactly, Refusals, OpeningsDiffer}
 use Rattle.strumok.proofs.Tests.{one-of, is-one-of, numbered, returned-none}
 use Rattle.strumok.proofs.LoadingLaws.{loading-laws}
@@ -45,7 +44,7 @@ first-line (t ∷ ts) (line ∷ lines) d = by (t .applies) refl (first-line ts l
     by true e r = inl (d .0 .yes e, d .0 .number)
     by false e r = inr (d .0 .no e, r)
 
-none-applies : (n : ℕ) (lines : List Line) → Returned n lines → NoneApplies lines → n ≡ 0
+none-applies : (n : ℕ) (lines : List Line) → Returned n lines → NoneApplies lines → n ≡ accepted
 none-applies n [] r h = r
 none-applies n (line ∷ lines) (inl r) h = absurd (h .0 (r .0))
 none-applies n (line ∷ lines) (inr r) h = none-applies n lines (r .1) (h .1)
@@ -63,8 +62,8 @@ refuses-exactly ts lines made back n d =
     record {
       first = first-line ts lines d;
       accepts = none-applies (returned ts) lines (first-line ts lines d);
-      accepted-only = accepted-none ts lines n d;
-      unaltered = λ h. rw (ne-eqb (returned ts) accepted h);
+      accepts-only = accepted-none ts lines n d;
+      gives-back = λ h. rw (ne-eqb (returned ts) accepted h);
     }
 
 -- ---- each test computes whether its line applies

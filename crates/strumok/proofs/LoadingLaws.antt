@@ -12,11 +12,11 @@ use lib.ListN.{length, length-map, length-reverse}
 use Rattle.galois.specs.Words.{at}
 use Rattle.galois.proofs.Computed.{allBelow}
 use Rattle.generator.specs.declared.Kind.the-variants.{Ordinary, Initial}
-use Rattle.generator.specs.Registers.{Registers, EighteenWords, next, iterate}
+use Rattle.generator.specs.Registers.{Registers, EighteenWords}
 use Rattle.generator.specs.GeneratorLaws.{OneToOne}
 use Rattle.generator.proofs.Iterate.{undone-one-to-one}
 use Rattle.generator.proofs.GeneratorLaws.{generator-laws}
-use Rattle.strumok.specs.Loading.{Bytes, wordOf, Row, rowsOf, loadedCell, loadedCells, sizeMark, load, initialised, registersAt}
+use Rattle.strumok.specs.Loading.{wordOf, Row, rowsOf, loadedCell, loadedCells, sizeMark, load, initialised, registersAt}
 use Rattle.strumok.specs.Refusals.{keyLengthTest, ivLengthTest, accepted}
 use Rattle.strumok.specs.Opening.{Accepted}
 use Rattle.strumok.specs.LoadingLaws.{LoadingLaws}

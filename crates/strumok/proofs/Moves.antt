@@ -1,19 +1,17 @@
 -- Where a move ends, and its answer there.
 -- Assumes nothing.
-use mathlib.Core.Path.{_≡_, refl, sym, ap, _∙_}
+use mathlib.Core.Path.{_≡_, sym, ap, _∙_}
 use mathlib.Core.Bool.{true, false}
 use mathlib.Core.List.{List, [], _∷_}
-use Prim.Native.Nat.{ℕ, zero, suc, _+_, _-_, _/_, _<_, _≤_, zero-le}
+use Prim.Native.Nat.{ℕ, suc, _-_, _/_, _<_, _≤_, zero-le}
 use native.Mathlib.Omega.{arith}
 use borrow.Author.Tests.{lt-ltb, le-ltb, ltb-false}
-use lib.Dec.{ltb}
 use lib.IntN.{ℤ, pos, negsuc, natAbs, _+ℤ_}
 use Rattle.generator.specs.declared.State.{State}
 use Rattle.generator.specs.declared.Kind.the-variants.{Ordinary}
 use Rattle.generator.specs.Registers.{registersOf, withRegisters, next, previous, iterate}
 use Rattle.strumok.specs.declared.Span.{Span}
-use Rattle.strumok.specs.declared.Answer.{Answer}
-use Rattle.strumok.specs.Refusals.{Test, limit, accepted, newPositionAbove, newPositionBelow, sizeMarkTest, positionTest, newPositionAboveTest, newPositionBelowTest, stateTests, returned}
+use Rattle.strumok.specs.Refusals.{Test, limit, accepted, newPositionAbove, newPositionBelow, sizeMarkTest, positionTest, newPositionAboveTest, newPositionBelowTest, stateTests, returned, WellFormed}
 use Rattle.strumok.specs.Moving.{movedTo, newPosition, movingTests, moved}
 use Rattle.strumok.specs.Functions.{spanOf}
 use Rattle.strumok.proofs.Tests.{returned-first, returned-rest, returned-none, answer-refused, answer-accepted}
@@ -52,7 +50,7 @@ abbrev pub endTests : State → ℤ → List Test
 endTests s d = newPositionAboveTest (newPosition s d) ∷ newPositionBelowTest (newPosition s d) ∷ []
 
 -- a well-formed state is not above the last position
-pub position-le : (s : State) → returned (stateTests s) ≡ accepted → s .position ≤ limit
+pub position-le : (s : State) → WellFormed s → s .position ≤ limit
 position-le s e =
     let rest = returned-none (sizeMarkTest s) (positionTest s ∷ []) tt e .1 in
     ltb-false limit (s .position) (returned-none (positionTest s) [] tt rest .0)
@@ -60,7 +58,7 @@ position-le s e =
 pub moved-ill-formed : (s : State) (d : ℤ) {n : ℕ} → n ≡ returned (stateTests s) → (n ≡ accepted → ⊥) → record { number = n; state = s } ≡ moved s d
 moved-ill-formed s d e h = answer-refused (movingTests s d) _ s (e ∙ sym (returned-first (stateTests s) (endTests s d) (λ z. h (e ∙ z)))) h
 
-module _ (s : State) (d : ℤ) (ok : returned (stateTests s) ≡ accepted) where
+module _ (s : State) (d : ℤ) (ok : WellFormed s) where
   tested : returned (movingTests s d) ≡ returned (endTests s d)
   tested = returned-rest (stateTests s) (endTests s d) tt ok
 

@@ -1,20 +1,18 @@
 -- The laws of moves that specs/MovingLaws.antt states.
 -- Assumes nothing.
 use mathlib.Core.Path.{_≡_, refl, sym, ap, _∙_, subst}
-use mathlib.Core.Bool.{Bool, true, false, false≢true}
 use mathlib.Core.List.{List, [], _∷_}
 use Prim.Native.Nat.{ℕ, _/_, _≤_}
 use native.Mathlib.Omega.{arith}
 use borrow.Author.Tests.{le-ltb, ltb-false}
-use lib.IntN.{ℤ, pos, negsuc, natAbs, negℤ, _+ℤ_, +ℤ-negℤ-cancel}
+use lib.IntN.{ℤ, pos, negsuc, negℤ, _+ℤ_, +ℤ-negℤ-cancel}
 use Rattle.generator.specs.declared.State.{State}
-use Rattle.generator.specs.declared.Kind.the-variants.{Ordinary}
-use Rattle.generator.specs.Registers.{Registers, EighteenWords, registersOf, next, iterate}
+use Rattle.generator.specs.Registers.{Registers, EighteenWords, registersOf}
 use Rattle.strumok.specs.declared.Answer.{Answer}
 use Rattle.strumok.specs.Loading.{load, initialised, registersAt}
-use Rattle.strumok.specs.Refusals.{Test, limit, accepted, sizeMarkTest, positionTest, newPositionAboveTest, newPositionBelowTest, stateTests, returned}
+use Rattle.strumok.specs.Refusals.{limit, accepted, sizeMarkTest, positionTest, newPositionAboveTest, newPositionBelowTest, returned, WellFormed}
 use Rattle.strumok.specs.Opening.{Accepted, Leads, openedState, opened}
-use Rattle.strumok.specs.Moving.{walk, movedTo, newPosition, movingTests, moved}
+use Rattle.strumok.specs.Moving.{walk, movedTo, newPosition, moved}
 use Rattle.strumok.specs.MovingLaws.{MovingLaws}
 use Rattle.strumok.proofs.Tests.{returned-none}
 use Rattle.strumok.proofs.Moves.{endTests, moves-to}
@@ -25,7 +23,7 @@ use Rattle.strumok.proofs.Walks.{walk-from, walk-walk, walk-same}
 
 -- the state is well-formed, and the move ends at position q, which is not above the last
 pub record Ends (s : State) (distance : ℤ) : Type 0 where
-  pub well-formed : returned (stateTests s) ≡ accepted
+  pub well-formed : WellFormed s
   pub to : ℕ
   pub there : newPosition s distance ≡ pos to
   pub low : to ≤ limit
@@ -36,7 +34,7 @@ ends s d e =
     let place = returned-none (positionTest s) (endTests s d) tt (size .1) in
     by (newPosition s d) refl (rw (size .0, place .0)) (place .1)
   where
-    by : (z : ℤ) → newPosition s d ≡ z → returned (stateTests s) ≡ accepted → returned (newPositionAboveTest z ∷ newPositionBelowTest z ∷ []) ≡ accepted → Ends s d
+    by : (z : ℤ) → newPosition s d ≡ z → WellFormed s → returned (newPositionAboveTest z ∷ newPositionBelowTest z ∷ []) ≡ accepted → Ends s d
     by (pos q) ez ok e =
         record { well-formed = ok; to = q; there = ez; low = ltb-false limit q (returned-none (newPositionAboveTest (pos q)) (newPositionBelowTest (pos q) ∷ []) tt e .0) }
     by (negsuc k) ez ok e = absurd (omega arith)
@@ -61,7 +59,7 @@ moved-here s =
     ap (λ (r : Registers). record { cells = r .cells; r1 = r .r1; r2 = r .r2; size = s .size; position = s .position }) (walk-same (s .position / 8) (registersOf s))
 
 -- a well-formed state is so at any position that is not above the last
-moved-well-formed : (s : State) (to : ℕ) → returned (stateTests s) ≡ accepted → to ≤ limit → returned (stateTests (movedTo s to)) ≡ accepted
+moved-well-formed : (s : State) (to : ℕ) → WellFormed s → to ≤ limit → WellFormed (movedTo s to)
 unfolding movedTo
 moved-well-formed s to e h = let size = returned-none (sizeMarkTest s) (positionTest s ∷ []) tt e in rw (size .0, le-ltb limit to h)
 

@@ -1,17 +1,15 @@
 -- What the code of loading and opening makes, equated with the definitions.
 -- Assumes nothing.
-use mathlib.Core.Path.{_≡_, refl, sym, ap, _∙_}
+use mathlib.Core.Path.{_≡_, _∙_}
 use mathlib.Core.Logic.{_⊎_, inl, inr}
 use mathlib.Core.List.{List, [], _∷_}
 use Prim.Native.Nat.{ℕ, _*_, _≤_}
 use native.Mathlib.Omega.{arith}
 use borrow.Author.Tests.{ne-eqb}
-use lib.Dec.{eqb}
 use lib.ListN.{length}
 use Rattle.galois.specs.Words.{tabulate, at}
 use Rattle.generator.specs.declared.State.{State}
-use Rattle.generator.specs.Registers.{registersOf, withRegisters}
-use Rattle.strumok.specs.declared.Answer.{Answer}
+use Rattle.generator.specs.Registers.{withRegisters}
 use Rattle.strumok.specs.Loading.{wordOf, rows256, rows512, loadedCells, load, initialised, sizeMark, registersAt}
 use Rattle.strumok.specs.Refusals.{keyLengthTest, ivLengthTest, accepted, returned}
 use Rattle.strumok.specs.Opening.{blank, openedState, openingTests, opened}

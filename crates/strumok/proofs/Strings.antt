@@ -1,13 +1,13 @@
 -- Strings of bytes read from their end, and the words in them: one is known by the other.
 -- Assumes nothing.
-use mathlib.Core.Path.{_≡_, refl, sym, ap, ap₂, _∙_}
+use mathlib.Core.Path.{_≡_, refl, sym, ap, _∙_}
 use mathlib.Core.Bool.{Bool, true, false}
 use mathlib.Core.List.{List, [], _∷_, _++_, reverse, reverseAux, reverse-cons, reverse-reverse}
 use Prim.Native.Nat.{ℕ, zero, suc, _+_, _-_, _*_, _/_, _%_, _^_, _≤_, _<_}
 use native.Mathlib.Omega.{arith}
 use borrow.Author.Tests.{ltb-true, ltb-false}
 use lib.Dec.{ltb, lit<}
-use lib.ListN.{length, getD, length-reverse, List·getD-append, List·getD-eq-default}
+use lib.ListN.{length, length-reverse, List·getD-append, List·getD-eq-default}
 use lib.Seq.{ext-getD, getD-at}
 use Rattle.galois.specs.Words.{byte, at}
 use Rattle.galois.proofs.Bytes.{byte-word, word-lt}

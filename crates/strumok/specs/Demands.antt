@@ -10,7 +10,7 @@ use lib.Signed.{_<ℤ_}
 use Rattle.generator.specs.declared.State.{State}
 use Rattle.strumok.specs.declared.Answer.{Answer}
 use Rattle.strumok.specs.Loading.{sizeMark, registersAt}
-use Rattle.strumok.specs.Refusals.{limit, accepted}
+use Rattle.strumok.specs.Refusals.{limit, accepted, keyLength, ivLength, badSizeMark, positionAbove, newPositionAbove, newPositionBelow}
 use Rattle.strumok.specs.Opening.{blank, opened, Accepted}
 use Rattle.strumok.specs.Moving.{newPosition, moved}
 
@@ -24,22 +24,22 @@ pub record Line : Type 1 where
 -- "Opening tests 1, 2"
 abbrev pub openingLines : (key iv : List ℕ) → List Line
 openingLines key iv =
-    record { number = 1; When = (length key ≡ 32 → ⊥) × (length key ≡ 64 → ⊥) }
-    ∷ record { number = 2; When = length iv ≡ 32 → ⊥ }
+    record { number = keyLength; When = (length key ≡ 32 → ⊥) × (length key ≡ 64 → ⊥) }
+    ∷ record { number = ivLength; When = length iv ≡ 32 → ⊥ }
     ∷ []
 
 -- "moving 3, 4, 7, 8"
 abbrev pub movingLines : (s : State) (distance : ℤ) → List Line
 movingLines s distance =
-    record { number = 3; When = (s .size ≡ 256 → ⊥) × (s .size ≡ 512 → ⊥) }
-    ∷ record { number = 4; When = 16777216 < s .position }
-    ∷ record { number = 7; When = pos 16777216 <ℤ newPosition s distance }
-    ∷ record { number = 8; When = newPosition s distance <ℤ pos 0 }
+    record { number = badSizeMark; When = (s .size ≡ 256 → ⊥) × (s .size ≡ 512 → ⊥) }
+    ∷ record { number = positionAbove; When = limit < s .position }
+    ∷ record { number = newPositionAbove; When = pos limit <ℤ newPosition s distance }
+    ∷ record { number = newPositionBelow; When = newPosition s distance <ℤ pos 0 }
     ∷ []
 
 -- "The lowest number that applies is returned, and otherwise 0": n is the number of the first line that applies, and 0 where none does
 abbrev pub Returned : ℕ → List Line → Type 0
-Returned n [] = n ≡ 0
+Returned n [] = n ≡ accepted
 Returned n (line ∷ lines) = (line .When × (n ≡ line .number)) ⊎ ((line .When → ⊥) × Returned n lines)
 
 abbrev pub NoneApplies : List Line → Type 0
@@ -49,9 +49,9 @@ NoneApplies (line ∷ lines) = (line .When → ⊥) × NoneApplies lines
 -- a call that answers a, where these lines are tested and a refusal gives this state back
 pub record RefusesExactly (a : Answer) (lines : List Line) (back : State) : Type 0 where
   pub first : Returned (a .number) lines
-  pub accepts : NoneApplies lines → a .number ≡ 0
-  pub accepted-only : a .number ≡ 0 → NoneApplies lines
-  pub unaltered : (a .number ≡ 0 → ⊥) → a .state ≡ back
+  pub accepts : NoneApplies lines → a .number ≡ accepted
+  pub accepts-only : a .number ≡ accepted → NoneApplies lines
+  pub gives-back : (a .number ≡ accepted → ⊥) → a .state ≡ back
 
 -- "What 01's table names is refused, with its number, the state given back as it came (opening: a blank one), nothing written. All else is
 -- accepted": for every key, IV, state and distance. Neither call is lent memory that it could write.

@@ -1,5 +1,6 @@
 -- Document 01, "Turned away": the numbers, the tests that they stand for, and which number is returned.
 -- Assumes nothing.
+use mathlib.Core.Path.{_≡_}
 use mathlib.Core.Bool.{Bool, cond, not, _||_}
 use mathlib.Core.List.{List, [], _∷_}
 use Prim.Native.Nat.{ℕ}
@@ -66,7 +67,7 @@ newPositionAboveTest to = record { number = newPositionAbove; applies = ltZ (pos
 abbrev pub newPositionBelowTest : ℤ → Test
 newPositionBelowTest to = record { number = newPositionBelow; applies = ltZ to (pos 0) }
 
--- "A state is well-formed when neither 3 nor 4 of the table below applies to it."
+-- 3 and 4, which every call on a state begins with
 abbrev pub stateTests : State → List Test
 stateTests s = sizeMarkTest s ∷ positionTest s ∷ []
 
@@ -74,6 +75,10 @@ stateTests s = sizeMarkTest s ∷ positionTest s ∷ []
 abbrev pub returned : List Test → ℕ
 returned [] = accepted
 returned (t ∷ ts) = cond (t .applies) (t .number) (returned ts)
+
+-- document 01's term: "A state is well-formed when neither 3 nor 4 of the table below applies to it."
+abbrev pub WellFormed : State → Type 0
+WellFormed s = returned (stateTests s) ≡ accepted
 
 -- the answer of a call with these tests: the state that it makes where none applies, and else the one that a refusal gives back
 abbrev pub answer : List Test → (made back : State) → Answer

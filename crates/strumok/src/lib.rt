@@ -21,7 +21,7 @@ use generator::backward;
 use generator::forward;
 use substitution::pi_inverse_tables;
 
-mod refusals;
+pub mod refusals;
 
 const ONES: u64 = 0xFFFFFFFFFFFFFFFF;
 

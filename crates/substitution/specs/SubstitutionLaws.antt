@@ -2,7 +2,7 @@
 -- Assumes nothing.
 use mathlib.Core.Path.{_≡_}
 use mathlib.Core.List.{List, [], _∷_, map}
-use Prim.Native.Nat.{ℕ, _^_, _<_}
+use Prim.Native.Nat.{ℕ, _<_}
 use lib.ListN.{getD, take}
 use Rattle.galois.specs.Words.{at, UndoesWord}
 use Rattle.substitution.specs.Pi.{pi, piInverse}

@@ -1,4 +1,5 @@
--- backward: a loop of steps back.
+-- `generator::backward` meets its contract: after i turns, i steps are done.
+-- Assumes nothing.
 use Prim.Native.Nat.{ℕ, _≤_, _-_}
 use mathlib.Core.Path.{_≡_, refl, ap, _∙_}
 use native.Mathlib.Numerals.{add-one}
@@ -8,7 +9,6 @@ use Rattle.generator.specs.Functions.{stepBackBy, backwardBy}
 use Rattle.generator.proofs.backward.Statement.{statement}
 use Rattle.generator.proofs.backward.Tie as tie
 
--- after i turns, i steps back are done
 abbrev Inv-loop : tie.InvT-loop
 Inv-loop kind n columns bytes inverse t₀ i₀ t i = (t ≡ backwardBy columns bytes inverse kind i t₀) × (i ≤ n)
 

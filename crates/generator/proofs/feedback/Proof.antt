@@ -1,4 +1,5 @@
--- feedback.
+-- `generator::feedback` meets its contract.
+-- Assumes nothing.
 use borrow.Author.Needs.{needs}
 use Rattle.generator.proofs.feedback.Statement.{statement}
 use Rattle.generator.proofs.feedback.Tie as tie

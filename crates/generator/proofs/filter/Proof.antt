@@ -1,4 +1,5 @@
--- filter: F.
+-- `generator::filter` meets its contract: F.
+-- Assumes nothing.
 use Rattle.generator.specs.Registers.{F}
 use borrow.Author.Needs.{needs}
 use Rattle.generator.proofs.filter.Statement.{statement}
@@ -9,4 +10,6 @@ unfolding F
 returns c = rw (c .wrapping-add-u64 .ensures)
 
 pub filter-spec : {M : Type 1} → statement M
-filter-spec = tie.close (tie.spec (λ c κs. search needs) returns)
+filter-spec =
+    tie.close
+    (tie.spec (λ c κs. search needs) returns)

@@ -1,4 +1,5 @@
--- forward: a loop of steps.
+-- `generator::forward` meets its contract: after i turns, i steps are done.
+-- Assumes nothing.
 use Prim.Native.Nat.{ℕ, _≤_, _-_}
 use mathlib.Core.Path.{_≡_, refl, ap, _∙_}
 use native.Mathlib.Numerals.{add-one}
@@ -10,7 +11,6 @@ use Rattle.generator.specs.Functions.{stepBy, forwardBy}
 use Rattle.generator.proofs.forward.Statement.{statement}
 use Rattle.generator.proofs.forward.Tie as tie
 
--- after i turns, i steps are done
 abbrev Inv-loop : tie.InvT-loop
 Inv-loop kind n tables alpha inverse t₀ i₀ t i = (t ≡ forwardBy tables alpha inverse kind i t₀) × (i ≤ n)
 

@@ -1,4 +1,5 @@
--- shift_out.
+-- `generator::shift_out` meets its contract: the cells read one by one.
+-- Assumes nothing.
 use Rattle.generator.proofs.Cells.{shift-out-is}
 use borrow.Author.Needs.{needs}
 use Rattle.generator.proofs.shift_out.Statement.{statement}

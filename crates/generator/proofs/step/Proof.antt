@@ -1,4 +1,5 @@
--- step: the parts of a step together.
+-- `generator::step` meets its contract: the parts of a step together.
+-- Assumes nothing.
 use Rattle.generator.specs.Registers.{nextWith, keystreamWord}
 use borrow.Author.Needs.{needs}
 use Rattle.generator.proofs.step.Statement.{statement}
@@ -7,10 +8,10 @@ use Rattle.generator.proofs.step.Tie as tie
 returns : tie.Need-returns
 unfolding nextWith keystreamWord
 returns c =
-    let b = c .before .before .before in
-    simp (c .substitute-word-by-tables .ensures, c .before .wrapping-add-u64 .ensures, c .before .before .shift-in .ensures, b .mix-in .ensures, b .before .feedback .ensures, b .before .before .filter .ensures)
+    let m = c .before .before .before in
+    simp (c .wrapping-add-u64 .ensures, c .before .substitute-word-by-tables .ensures, c .before .before .shift-in .ensures, m .mix-in .ensures, m .before .feedback .ensures, m .before .before .filter .ensures)
 
 pub step-spec : {M : Type 1} → statement M
 step-spec =
     tie.close
-    (tie.spec (λ c. search needs) (λ c κs. search needs) (λ c κs. search needs) (λ c κs. search needs) (λ c κs. search needs) (λ c. search needs) (λ c κs. search needs) (λ c κs. search needs) (λ c. search needs) returns)
+    (tie.spec (λ c. search needs) (λ c κs. search needs) (λ c κs. search needs) (λ c κs. search needs) (λ c κs. search needs) (λ c κs. search needs) (λ c. search needs) (λ c κs. search needs) (λ c. search needs) returns)

@@ -2,12 +2,11 @@
 -- Assumes nothing.
 use mir.Syntax.{w64}
 use mir.ValLaws.{toZ-ofZ}
-use Prim.Native.Nat.{_+_, _-_}
 use mathlib.Core.Path.{_≡_, sym, ap, _∙_}
 use native.Mathlib.Omega.{arith}
 use borrow.Author.Needs.{needs}
 use lib.IntN.{ℤ, pos, negsuc, _+ℤ_}
-use Rattle.strumok.specs.Refusals.{accepted, stateTests, returned}
+use Rattle.strumok.specs.Refusals.{WellFormed}
 use Rattle.strumok.specs.Functions.{spanOf}
 use Rattle.strumok.proofs.Moves.{is-back, is-ahead, back-below, back-to, position-le, moved-ill-formed, moves-to, moves-above, moves-below}
 use Rattle.strumok.proofs.move_by.Statement.{statement}
@@ -17,7 +16,7 @@ returns : tie.Need-returns
 returns c = let a = c .before .before .args in moved-ill-formed (a .s) (a .distance) (c .before .state-number .ensures) (c .if1 .taken)
 
 -- past the tests of the state
-ok : (c : tie.After-span-of) → returned (stateTests (c .before .before .before .args .s)) ≡ accepted
+ok : (c : tie.After-span-of) → WellFormed (c .before .before .before .args .s)
 ok c = sym (c .before .before .state-number .ensures) ∙ c .before .if1 .left
 
 -- the distance is passed on as its bits, and read back

@@ -1,12 +1,9 @@
 -- `strumok::open` meets its contract.
 -- Assumes nothing.
 use mathlib.Core.Path.{_≡_, refl, sym, ap, _∙_}
-use Prim.Native.Nat.{_≤_}
 use native.Mathlib.Omega.{arith}
 use borrow.Author.Needs.{needs}
-use lib.ListN.{length}
 use Rattle.generator.specs.declared.State.{State}
-use Rattle.strumok.specs.declared.Answer.{Answer}
 use Rattle.strumok.specs.Refusals.{accepted, returned}
 use Rattle.strumok.specs.Opening.{blank, openedState, openingTests}
 use Rattle.strumok.proofs.Tests.{answer-refused}

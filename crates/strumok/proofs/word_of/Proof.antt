@@ -2,7 +2,6 @@
 -- Assumes nothing.
 use Prim.Native.Nat.{_+_, _*_, _<_}
 use mathlib.Core.List.{reverse}
-use native.Mathlib.Omega.{arith}
 use borrow.Author.Needs.{needs}
 use Rattle.galois.specs.Words.{at}
 use Rattle.galois.proofs.Built.{Built, built-start, built-more, built-end}
