@@ -184,11 +184,11 @@ pub fn forward(
     ensures { λ r. ⌜ r ≡ forwardBy (now (tables .entry)) (now (alpha .entry)) (now (inverse .entry)) kind n s ⌝ }
 {
     let mut t = s;
-    let mut i: u64 = 0;
-    while i < n {
+    let mut taken: u64 = 0;
+    while taken < n {
         let stepped = step(kind, t, tables, alpha, inverse);
         t = stepped.state;
-        i += 1;
+        taken += 1;
     }
     t
 }
@@ -205,10 +205,10 @@ pub fn backward(
     ensures { λ r. ⌜ r ≡ backwardBy (now (columns .entry)) (now (bytes .entry)) (now (inverse .entry)) kind n s ⌝ }
 {
     let mut t = s;
-    let mut i: u64 = 0;
-    while i < n {
+    let mut undone: u64 = 0;
+    while undone < n {
         t = step_back(kind, t, columns, bytes, inverse);
-        i += 1;
+        undone += 1;
     }
     t
 }

@@ -18,7 +18,8 @@ use Rattle.strumok.specs.Opening.{blank, openedState, openingTests}
 use Rattle.strumok.specs.Moving.{newPosition, movingTests}
 use Rattle.strumok.specs.Demands.{Line, openingLines, movingLines, Returned, NoneApplies, RefusesExactly, Refusals, OpeningsDiffer}
 use Rattle.strumok.proofs.Tests.{one-of, is-one-of, numbered, returned-none}
-use Rattle.strumok.proofs.LoadingLaws.{loading-laws}
+use Rattle.loading.proofs.LoadingLaws.{loading-laws}
+use Rattle.strumok.proofs.Opened.{key-and-iv}
 
 -- ---- lists of tests that compute whether the lines apply
 
@@ -102,4 +103,4 @@ refusals =
 -- ---- 3. Stored states
 
 pub openings-differ : OpeningsDiffer
-openings-differ key iv key′ iv′ o o′ z z′ differ n e = differ (loading-laws .registers-one-to-one-in-both key iv key′ iv′ o o′ z z′ n e)
+openings-differ key iv key′ iv′ o o′ z z′ differ n e = differ (loading-laws .registers-one-to-one-in-both key iv key′ iv′ (key-and-iv o) (key-and-iv o′) z z′ n e)

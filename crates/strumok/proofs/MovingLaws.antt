@@ -9,14 +9,15 @@ use lib.IntN.{ℤ, pos, negsuc, negℤ, _+ℤ_, +ℤ-negℤ-cancel}
 use Rattle.generator.specs.declared.State.{State}
 use Rattle.generator.specs.Registers.{Registers, EighteenWords, registersOf}
 use Rattle.strumok.specs.declared.Answer.{Answer}
-use Rattle.strumok.specs.Loading.{load, initialised, registersAt}
+use Rattle.loading.specs.Loading.{load, initialised, registersAt}
 use Rattle.strumok.specs.Refusals.{limit, accepted, sizeMarkTest, positionTest, newPositionAboveTest, newPositionBelowTest, returned, WellFormed}
 use Rattle.strumok.specs.Opening.{Accepted, Leads, openedState, opened}
 use Rattle.strumok.specs.Moving.{walk, movedTo, newPosition, moved}
 use Rattle.strumok.specs.MovingLaws.{MovingLaws}
 use Rattle.strumok.proofs.Tests.{returned-none}
+use Rattle.strumok.proofs.Opened.{key-and-iv}
 use Rattle.strumok.proofs.Moves.{endTests, moves-to}
-use Rattle.strumok.proofs.LoadingLaws.{initialised-words, loading-laws}
+use Rattle.loading.proofs.LoadingLaws.{initialised-words, loading-laws}
 use Rattle.strumok.proofs.Walks.{walk-from, walk-walk, walk-same}
 
 -- ---- what an accepted move tells
@@ -80,7 +81,7 @@ there-and-back s d w e =
 -- ---- where a key leads
 
 registers-words : (key iv : List ℕ) → Accepted key iv → EighteenWords (initialised (load key iv))
-registers-words key iv o = initialised-words (load key iv) (loading-laws .loads-words key iv o)
+registers-words key iv o = initialised-words (load key iv) (loading-laws .loads-words key iv (key-and-iv o))
 
 -- S at word a, walked to word b, is S there
 walk-registers : (key iv : List ℕ) → Accepted key iv → (a b : ℕ) → walk a b (registersAt key iv a) ≡ registersAt key iv b

@@ -3,16 +3,16 @@
 use mathlib.Core.Path.{_≡_, _∙_}
 use mathlib.Core.Logic.{_⊎_, inl, inr}
 use mathlib.Core.List.{List, [], _∷_}
-use Prim.Native.Nat.{ℕ, _*_, _≤_}
+use Prim.Native.Nat.{ℕ, _≤_}
 use native.Mathlib.Omega.{arith}
-use borrow.Author.Tests.{ne-eqb}
+use borrow.Author.Tests.{eqb-true, not-false}
+use lib.Dec.{eqb}
 use lib.ListN.{length}
-use Rattle.galois.specs.Words.{tabulate, at}
 use Rattle.generator.specs.declared.State.{State}
 use Rattle.generator.specs.Registers.{withRegisters}
-use Rattle.strumok.specs.Loading.{wordOf, rows256, rows512, loadedCells, load, initialised, sizeMark, registersAt}
+use Rattle.loading.specs.Loading.{KeyAndIv, load, initialised, sizeMark, registersAt}
 use Rattle.strumok.specs.Refusals.{keyLengthTest, ivLengthTest, accepted, returned}
-use Rattle.strumok.specs.Opening.{blank, openedState, openingTests, opened}
+use Rattle.strumok.specs.Opening.{blank, openedState, openingTests, opened, Accepted}
 use Rattle.strumok.proofs.Tests.{is-one-of, returned-none, answer-accepted}
 
 -- ---- what an accepted opening tells
@@ -27,16 +27,16 @@ key-short key iv e = by (key-length key iv e)
     by (inl l) = omega arith
     by (inr l) = omega arith
 
--- ---- loading
-
-module _ (key iv : List ℕ) {k v : List ℕ} (ev : v ≡ tabulate 4 (wordOf iv)) where
-  pub loaded-256 : length key ≡ 32 → k ≡ tabulate 4 (wordOf key) → loadedCells rows256 (at k) (at v) ≡ load key iv .cells
-  unfolding load loadedCells
-  loaded-256 l ek = rw (ek, ev, l)
-
-  pub loaded-512 : (length key ≡ 32 → ⊥) → k ≡ tabulate 8 (wordOf key) → loadedCells rows512 (at k) (at v) ≡ load key iv .cells
-  unfolding load loadedCells
-  loaded-512 l ek = rw (ek, ev, ne-eqb (8 * length key) 256 (λ e. l (omega arith)))
+-- what opening accepts is a key of 256 or 512 bits and an IV of 256
+pub key-and-iv : {key iv : List ℕ} → Accepted key iv → KeyAndIv key iv
+key-and-iv {key} {iv} o =
+    let rest = returned-none (keyLengthTest key) (ivLengthTest iv ∷ []) tt (o .opens) .1 in
+    record {
+      key-bytes = o .key-bytes;
+      key-length = key-length key iv (o .opens);
+      iv-bytes = o .iv-bytes;
+      iv-length = eqb-true (length iv) 32 (not-false (eqb (length iv) 32) (returned-none (ivLengthTest iv) [] tt rest .0));
+    }
 
 -- ---- opening
 

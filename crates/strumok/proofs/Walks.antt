@@ -43,8 +43,5 @@ module _ (r : Registers) (w : EighteenWords r) where
   pub walk-walk : (a b c : ℕ) → walk b c (walk a b r) ≡ walk a c r
   walk-walk a b c = ap (walk b c) (walk-is a b) ∙ walk-from b c (start a) (start-words a) ∙ sym (walk-is a c)
 
-  pub walk-words : (a b : ℕ) → EighteenWords (walk a b r)
-  walk-words a b = generator-laws .forward-back Ordinary (a - b) .keeps _ (generator-laws .back-forward Ordinary (b - a) .keeps r w)
-
 pub walk-same : (a : ℕ) (r : Registers) → walk a a r ≡ r
 walk-same a r = let z : a - a ≡ 0 = omega arith in rw z

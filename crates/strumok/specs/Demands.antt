@@ -9,7 +9,7 @@ use lib.ListN.{length}
 use lib.Signed.{_<ℤ_}
 use Rattle.generator.specs.declared.State.{State}
 use Rattle.strumok.specs.declared.Answer.{Answer}
-use Rattle.strumok.specs.Loading.{sizeMark, registersAt}
+use Rattle.loading.specs.Loading.{sizeMark, registersAt}
 use Rattle.strumok.specs.Refusals.{limit, accepted, keyLength, ivLength, badSizeMark, positionAbove, newPositionAbove, newPositionBelow}
 use Rattle.strumok.specs.Opening.{blank, opened, Accepted}
 use Rattle.strumok.specs.Moving.{newPosition, moved}

@@ -7,7 +7,7 @@ use Prim.Native.Nat.{ℕ, _/_}
 use lib.IntN.{ℤ, pos, negℤ}
 use Rattle.generator.specs.declared.State.{State}
 use Rattle.generator.specs.Registers.{EighteenWords, registersOf}
-use Rattle.strumok.specs.Loading.{registersAt}
+use Rattle.loading.specs.Loading.{registersAt}
 use Rattle.strumok.specs.Refusals.{accepted}
 use Rattle.strumok.specs.Opening.{Accepted, Leads, opened}
 use Rattle.strumok.specs.Moving.{movedTo, newPosition, moved}

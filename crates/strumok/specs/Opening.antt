@@ -7,7 +7,7 @@ use lib.ListN.{replicate}
 use Rattle.generator.specs.declared.State.{State}
 use Rattle.generator.specs.Registers.{registersOf}
 use Rattle.strumok.specs.declared.Answer.{Answer}
-use Rattle.strumok.specs.Loading.{Bytes, sizeMark, registersAt}
+use Rattle.loading.specs.Loading.{Bytes, sizeMark, registersAt}
 use Rattle.strumok.specs.Refusals.{Test, keyLengthTest, ivLengthTest, accepted, answer}
 
 -- "the blank state (all cells, registers, position and size mark 0)"

@@ -1,4 +1,4 @@
--- `generator::backward` meets its contract: after i turns, i steps are done.
+-- `generator::backward` meets its contract: after i turns, i steps are undone.
 -- Assumes nothing.
 use Prim.Native.Nat.{ℕ, _≤_, _-_}
 use mathlib.Core.Path.{_≡_, refl, ap, _∙_}
@@ -25,7 +25,7 @@ returns : tie.Need-returns Inv-loop μ-loop
 returns c =
     let l = c .before .loop in
     let a = c .before .before .args in
-    let e : l .i ≡ a .n = omega arith in
+    let e : l .undone ≡ a .n = omega arith in
     l .inv .0 ∙ ap (λ (i : ℕ). backwardBy (a .columns .now) (a .bytes .now) (a .inverse .now) (a .kind) i (a .s)) e
 
 pub backward-spec : {M : Type 1} → statement M

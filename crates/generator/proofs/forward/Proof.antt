@@ -1,4 +1,4 @@
--- `generator::forward` meets its contract: after i turns, i steps are done.
+-- `generator::forward` meets its contract: after i turns, i steps are taken.
 -- Assumes nothing.
 use Prim.Native.Nat.{ℕ, _≤_, _-_}
 use mathlib.Core.Path.{_≡_, refl, ap, _∙_}
@@ -27,7 +27,7 @@ returns : tie.Need-returns Inv-loop μ-loop
 returns c =
     let l = c .before .loop in
     let a = c .before .before .args in
-    let e : l .i ≡ a .n = omega arith in
+    let e : l .taken ≡ a .n = omega arith in
     l .inv .0 ∙ ap (λ (i : ℕ). forwardBy (a .tables .now) (a .alpha .now) (a .inverse .now) (a .kind) i (a .s)) e
 
 pub forward-spec : {M : Type 1} → statement M

@@ -6,7 +6,7 @@ use Rattle.generator.specs.declared.State.{State}
 use Rattle.generator.specs.declared.Kind.the-variants.{Ordinary, Initial}
 use Rattle.generator.specs.Registers.{registersOf, withRegisters, next, iterate}
 use Rattle.generator.proofs.GeneratorLaws.{forward-by-tables}
-use Rattle.strumok.specs.Loading.{initialised}
+use Rattle.loading.specs.Loading.{initialised}
 use Rattle.strumok.proofs.initialise.Statement.{statement}
 use Rattle.strumok.proofs.initialise.Tie as tie
 

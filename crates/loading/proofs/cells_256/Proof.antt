@@ -1,0 +1,16 @@
+-- `loading::cells_256` meets its contract: the table of rows, read.
+-- Assumes nothing.
+use mathlib.Core.Path.{refl}
+use Rattle.loading.specs.Loading.{loadedCells}
+use borrow.Author.Needs.{needs}
+use Rattle.loading.proofs.cells_256.Statement.{statement}
+use Rattle.loading.proofs.cells_256.Tie as tie
+
+returns : tie.Need-returns
+unfolding loadedCells
+returns c = refl
+
+pub cells-256-spec : {M : Type 1} → statement M
+cells-256-spec =
+    tie.close
+    (tie.spec (λ c. search needs) (λ c. search needs) (λ c. search needs) (λ c. search needs) (λ c. search needs) (λ c. search needs) (λ c. search needs) (λ c. search needs) (λ c. search needs) (λ c. search needs) (λ c. search needs) (λ c. search needs) (λ c. search needs) (λ c. search needs) (λ c. search needs) (λ c. search needs) (λ c. search needs) (λ c. search needs) (λ c. search needs) (λ c. search needs) returns)

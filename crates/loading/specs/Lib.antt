@@ -1,0 +1,4 @@
+-- The definitions that the contracts of loading cite, its laws, and the worked table.
+pub mod Loading
+pub mod LoadingLaws
+pub mod WorkedTable
