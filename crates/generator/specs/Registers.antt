@@ -29,12 +29,17 @@ pub record EighteenWords (r : Registers) : Type 0 where
   pub r1-lt : r .r1 < 2 ^ 64
   pub r2-lt : r .r2 < 2 ^ 64
 
--- a state's registers, and the state with other registers, its size mark and position kept
+-- a state's registers
 abbrev pub registersOf : State → Registers
 registersOf s = record { cells = s .cells; r1 = s .r1; r2 = s .r2 }
 
+-- the state of these registers, "a size mark (the number 256 or 512) and a byte position"
+abbrev pub stateOf : Registers → (size position : ℕ) → State
+stateOf r size position = record { cells = r .cells; r1 = r .r1; r2 = r .r2; size = size; position = position }
+
+-- a state with other registers, its size mark and position kept
 abbrev pub withRegisters : State → Registers → State
-withRegisters s r = record { cells = r .cells; r1 = r .r1; r2 = r .r2; size = s .size; position = s .position }
+withRegisters s r = stateOf r (s .size) (s .position)
 
 -- "Sums below drop the carry out of 64 bits."
 abbrev pub sum : ℕ → ℕ → ℕ

@@ -23,7 +23,7 @@ ones = 0xFFFFFFFFFFFFFFFF
 abbrev zeros : ℕ → List ℕ
 zeros n = replicate n 0
 
--- the string of n bytes whose words, the highest first, are these
+-- the eight bytes of a word below 256, most significant first
 abbrev wordBytes : ℕ → List ℕ
 wordBytes w = zeros 7 ++ (w ∷ [])
 

@@ -7,7 +7,7 @@ use native.Mathlib.Omega.{arith}
 use borrow.Author.Tests.{le-ltb, ltb-false}
 use lib.IntN.{ℤ, pos, negsuc, negℤ, _+ℤ_, +ℤ-negℤ-cancel}
 use Rattle.generator.specs.declared.State.{State}
-use Rattle.generator.specs.Registers.{Registers, EighteenWords, registersOf}
+use Rattle.generator.specs.Registers.{Registers, EighteenWords, registersOf, stateOf, withRegisters}
 use Rattle.strumok.specs.declared.Answer.{Answer}
 use Rattle.loading.specs.Loading.{load, initialised, registersAt}
 use Rattle.strumok.specs.Refusals.{limit, accepted, sizeMarkTest, positionTest, newPositionAboveTest, newPositionBelowTest, returned, WellFormed}
@@ -52,12 +52,12 @@ new-position s d e = ap (λ (t : State). pos (t .position)) (moved-state s d e) 
 moved-moved : (s : State) (p q : ℕ) → EighteenWords (registersOf s) → movedTo (movedTo s p) q ≡ movedTo s q
 unfolding movedTo
 moved-moved s p q w =
-    ap (λ (r : Registers). record { cells = r .cells; r1 = r .r1; r2 = r .r2; size = s .size; position = q }) (walk-walk (registersOf s) w (s .position / 8) (p / 8) (q / 8))
+    ap (λ (r : Registers). stateOf r (s .size) q) (walk-walk (registersOf s) w (s .position / 8) (p / 8) (q / 8))
 
 moved-here : (s : State) → movedTo s (s .position) ≡ s
 unfolding movedTo
 moved-here s =
-    ap (λ (r : Registers). record { cells = r .cells; r1 = r .r1; r2 = r .r2; size = s .size; position = s .position }) (walk-same (s .position / 8) (registersOf s))
+    ap (withRegisters s) (walk-same (s .position / 8) (registersOf s))
 
 -- a well-formed state is so at any position that is not above the last
 moved-well-formed : (s : State) (to : ℕ) → WellFormed s → to ≤ limit → WellFormed (movedTo s to)

@@ -5,7 +5,7 @@ use Prim.Native.Nat.{ℕ, _-_, _/_}
 use lib.IntN.{ℤ, pos, natAbs, _+ℤ_}
 use Rattle.generator.specs.declared.State.{State}
 use Rattle.generator.specs.declared.Kind.the-variants.{Ordinary}
-use Rattle.generator.specs.Registers.{Registers, registersOf, next, previous, iterate}
+use Rattle.generator.specs.Registers.{Registers, registersOf, stateOf, next, previous, iterate}
 use Rattle.strumok.specs.declared.Answer.{Answer}
 use Rattle.strumok.specs.Refusals.{Test, stateTests, newPositionAboveTest, newPositionBelowTest, answer}
 
@@ -16,14 +16,7 @@ walk a b r = iterate (previous Ordinary) (a - b) (iterate (next Ordinary) (b - a
 -- the state at the byte position `to`: "A state at position p holds the registers of S at word floor(p/8)."
 -- "A well-formed state that no opening made is worked from its registers as they are."
 unfoldable pub movedTo : State → (to : ℕ) → State
-movedTo s to =
-    record {
-      cells = walk (s .position / 8) (to / 8) (registersOf s) .cells;
-      r1 = walk (s .position / 8) (to / 8) (registersOf s) .r1;
-      r2 = walk (s .position / 8) (to / 8) (registersOf s) .r2;
-      size = s .size;
-      position = to;
-    }
+movedTo s to = stateOf (walk (s .position / 8) (to / 8) (registersOf s)) (s .size) to
 
 -- "A move is a signed 64-bit count of bytes, negative towards the start; an accepted one leaves the state at the old position plus that
 -- count": as whole numbers

@@ -5,25 +5,18 @@ use mathlib.Core.List.{List, [], _∷_}
 use Prim.Native.Nat.{ℕ, _/_}
 use lib.ListN.{replicate}
 use Rattle.generator.specs.declared.State.{State}
-use Rattle.generator.specs.Registers.{registersOf}
+use Rattle.generator.specs.Registers.{registersOf, stateOf}
 use Rattle.strumok.specs.declared.Answer.{Answer}
 use Rattle.loading.specs.Loading.{Bytes, sizeMark, registersAt}
 use Rattle.strumok.specs.Refusals.{Test, keyLengthTest, ivLengthTest, accepted, answer}
 
 -- "the blank state (all cells, registers, position and size mark 0)"
 abbrev pub blank : State
-blank = record { cells = replicate 16 0; r1 = 0; r2 = 0; size = 0; position = 0 }
+blank = stateOf (record { cells = replicate 16 0; r1 = 0; r2 = 0 }) 0 0
 
 -- "S_0, at position 0 with size mark 8 × the key length in bytes"
 abbrev pub openedState : (key iv : List ℕ) → State
-openedState key iv =
-    record {
-      cells = registersAt key iv 0 .cells;
-      r1 = registersAt key iv 0 .r1;
-      r2 = registersAt key iv 0 .r2;
-      size = sizeMark key;
-      position = 0;
-    }
+openedState key iv = stateOf (registersAt key iv 0) (sizeMark key) 0
 
 -- "Opening tests 1, 2"
 abbrev pub openingTests : (key iv : List ℕ) → List Test

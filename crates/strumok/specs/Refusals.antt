@@ -1,4 +1,4 @@
--- Document 01, "Turned away": the numbers, the tests that they stand for, and which number is returned.
+-- Document 01, the table of returned numbers: each number, the test that it stands for, and which one a call returns.
 -- Assumes nothing.
 use mathlib.Core.Path.{_≡_}
 use mathlib.Core.Bool.{Bool, cond, not, _||_}
@@ -67,7 +67,7 @@ newPositionAboveTest to = record { number = newPositionAbove; applies = ltZ (pos
 abbrev pub newPositionBelowTest : ℤ → Test
 newPositionBelowTest to = record { number = newPositionBelow; applies = ltZ to (pos 0) }
 
--- 3 and 4, which every call on a state begins with
+-- 3 and 4, the tests of a state
 abbrev pub stateTests : State → List Test
 stateTests s = sizeMarkTest s ∷ positionTest s ∷ []
 

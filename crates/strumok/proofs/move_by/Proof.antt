@@ -33,7 +33,7 @@ returns-2 : tie.Need-returns-2
 returns-2 c =
     let a = c .before .before .before .before .before .args in
     moves-below (a .s) (a .distance) (ok (c .before .before))
-    (ap (λ (d : ℤ). pos (a .s .position) +ℤ d) (goes-back (c .before)) ∙ back-below (a .s .position) _ (c .if3 .taken))
+    (ap (λ (d : ℤ). pos (a .s .position) +ℤ d) (goes-back (c .before)) ∙ back-below (a .s .position) (c .before .before .span-of .result .count) (omega (arith, c .if3 .taken)))
 
 returns-3 : tie.Need-returns-3
 returns-3 c =
@@ -41,7 +41,7 @@ returns-3 c =
     let a = two .before .before .before .before .args in
     let le = position-le (a .s) (ok (two .before)) in
     moves-to (a .s) (a .distance) (ok (two .before))
-    (ap (λ (d : ℤ). pos (a .s .position) +ℤ d) (goes-back two) ∙ back-to (a .s .position) _ (c .before .if3 .left)) (omega arith) (c .move-to .ensures)
+    (ap (λ (d : ℤ). pos (a .s .position) +ℤ d) (goes-back two) ∙ back-to (a .s .position) (two .before .span-of .result .count) (omega (arith, c .before .if3 .left))) (omega arith) (c .move-to .ensures)
 
 sub-if4 : tie.Need-sub-if4
 sub-if4 c = position-le (c .before .before .before .before .args .s) (ok (c .before))
