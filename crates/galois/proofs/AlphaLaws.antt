@@ -16,7 +16,7 @@ use Rattle.galois.proofs.Bytes.{tabulate-at, byte-lt, byte-xor, word-lt
 
 -- ---- both products keep xor
 
-scaled-linear : (row : ℕ) → Linear (scaled row)
+pub scaled-linear : (row : ℕ) → Linear (scaled row)
 scaled-linear row = word-linear 8 (λ j. gmul (byte row j)) (λ j. gmul-linear (byte row j)) (λ j c. gmul-lt (byte row j) c (byte-lt row j))
 
 scaled-lt : (row c : ℕ) → scaled row c < 2 ^ 64
