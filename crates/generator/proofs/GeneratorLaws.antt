@@ -11,25 +11,27 @@ use Rattle.substitution.specs.Substitution.{substitutionTables, matrixInverseTa
 use Rattle.substitution.proofs.SubstitutionLaws.{substitution-laws}
 use Rattle.generator.specs.declared.State.{State}
 use Rattle.generator.specs.declared.Kind.{Kind}
-use Rattle.generator.specs.Registers.{Registers, registersOf, withRegisters, nextWith, previousWith, next, previous, iterate}
-use Rattle.generator.specs.Functions.{forwardBy, backwardBy}
+use Rattle.generator.specs.Registers.{Registers, nextWith, previousWith, next, previous, walked}
+use Rattle.generator.specs.Functions.{nextBy, previousBy}
 use Rattle.generator.specs.GeneratorLaws.{UndoneBy, GeneratorLaws}
 use Rattle.generator.proofs.Round as Round
+use Rattle.generator.proofs.Round.{Inverses}
 use Rattle.generator.proofs.Iterate.{iterate-add, iterate-undone, undone-one-to-one}
 
-pub previous-next : (kind : Kind) → UndoneBy (previous kind) (next kind)
-previous-next kind =
+standard : Inverses substitute substituteInverse alphaTimes alphaInverseTimes
+standard =
     record {
-      keeps = Round.next-words (substitution-laws .inverse-substitute) (substitution-laws .substitute-inverse) (alpha-laws .inverse-alpha) (alpha-laws .alpha-inverse) kind;
-      undone = Round.previous-next (substitution-laws .inverse-substitute) (substitution-laws .substitute-inverse) (alpha-laws .inverse-alpha) (alpha-laws .alpha-inverse) kind;
+      inverse-t = substitution-laws .inverse-substitute;
+      t-inverse = substitution-laws .substitute-inverse;
+      inverse-alpha = alpha-laws .inverse-alpha;
+      alpha-inverse = alpha-laws .alpha-inverse;
     }
 
-pub next-previous : (kind : Kind) → UndoneBy (next kind) (previous kind)
-next-previous kind =
-    record {
-      keeps = Round.previous-words (substitution-laws .inverse-substitute) (substitution-laws .substitute-inverse) (alpha-laws .inverse-alpha) (alpha-laws .alpha-inverse) kind;
-      undone = Round.next-previous (substitution-laws .inverse-substitute) (substitution-laws .substitute-inverse) (alpha-laws .inverse-alpha) (alpha-laws .alpha-inverse) kind;
-    }
+previous-next : (kind : Kind) → UndoneBy (previous kind) (next kind)
+previous-next kind = record { keeps = Round.next-words standard kind; undone = Round.previous-next standard kind }
+
+next-previous : (kind : Kind) → UndoneBy (next kind) (previous kind)
+next-previous kind = record { keeps = Round.previous-words standard kind; undone = Round.next-previous standard kind }
 
 table-path : lookUp substitutionTables ≡ substitute
 table-path = fun-ext (substitution-laws .table-path)
@@ -65,13 +67,8 @@ generator-laws =
 
 -- ---- walks by the tables of T, α and their inverses
 
-abbrev walked : (Kind → Registers → Registers) → Kind → ℕ → State → State
-walked f kind n s = withRegisters s (iterate (f kind) n (registersOf s))
+pub forward-by-tables : {tables : List (List ℕ)} {alpha inverse : List ℕ} → tables ≡ substitutionTables → alpha ≡ alphaTable → inverse ≡ alphaInverseTable → (kind : Kind) (n : ℕ) (s : State) → walked (nextBy tables alpha inverse kind) n s ≡ walked (next kind) n s
+forward-by-tables et ea ei kind n s = rw (et, ea, ei) (ap (λ (f : Kind → Registers → Registers). walked (f kind) n s) (generator-laws .next-by-tables))
 
-pub forward-by-tables : {tables : List (List ℕ)} {alpha inverse : List ℕ} → tables ≡ substitutionTables → alpha ≡ alphaTable → inverse ≡ alphaInverseTable
-    → (kind : Kind) (n : ℕ) (s : State) → forwardBy tables alpha inverse kind n s ≡ withRegisters s (iterate (next kind) n (registersOf s))
-forward-by-tables et ea ei kind n s = rw (et, ea, ei) (ap (λ (f : Kind → Registers → Registers). walked f kind n s) (generator-laws .next-by-tables))
-
-pub backward-by-tables : {columns bytes : List (List ℕ)} {inverse : List ℕ} → columns ≡ matrixInverseTables → bytes ≡ piInverse → inverse ≡ alphaInverseTable
-    → (kind : Kind) (n : ℕ) (s : State) → backwardBy columns bytes inverse kind n s ≡ withRegisters s (iterate (previous kind) n (registersOf s))
-backward-by-tables ec eb ei kind n s = rw (ec, eb, ei) (ap (λ (f : Kind → Registers → Registers). walked f kind n s) (generator-laws .previous-by-tables))
+pub backward-by-tables : {columns bytes : List (List ℕ)} {inverse : List ℕ} → columns ≡ matrixInverseTables → bytes ≡ piInverse → inverse ≡ alphaInverseTable → (kind : Kind) (n : ℕ) (s : State) → walked (previousBy columns bytes inverse kind) n s ≡ walked (previous kind) n s
+backward-by-tables ec eb ei kind n s = rw (ec, eb, ei) (ap (λ (f : Kind → Registers → Registers). walked (f kind) n s) (generator-laws .previous-by-tables))

@@ -3,7 +3,9 @@
 use mathlib.Core.Path.{_≡_, refl, sym, ap, _∙_}
 use Prim.Native.Nat.{ℕ, zero, suc, _+_}
 use native.Mathlib.Nat.{add-zero, add-suc}
-use Rattle.generator.specs.Registers.{Registers, EighteenWords, iterate}
+use native.Mathlib.Numerals.{add-one}
+use Rattle.generator.specs.declared.State.{State}
+use Rattle.generator.specs.Registers.{Registers, EighteenWords, registersOf, withRegisters, iterate, walked}
 use Rattle.generator.specs.GeneratorLaws.{UndoneBy, OneToOne}
 
 pub iterate-add : {A : Type 0} (f : A → A) (m n : ℕ) (x : A) → iterate f (m + n) x ≡ iterate f n (iterate f m x)
@@ -30,3 +32,9 @@ module _ {g f : Registers → Registers} (u : UndoneBy g f) where
 -- what can be undone is one-to-one
 pub undone-one-to-one : {g f : Registers → Registers} → UndoneBy g f → OneToOne f
 undone-one-to-one {g} {f} u a b wa wb e = sym (u .undone a wa) ∙ ap g e ∙ u .undone b wb
+
+-- ---- a loop of steps
+
+-- one step more
+pub walked-more : (f : Registers → Registers) (s : State) (i : ℕ) {t u : State} → t ≡ walked f i s → u ≡ withRegisters t (f (registersOf t)) → u ≡ walked f (i + 1) s
+walked-more f s i et eu = rw add-one (eu ∙ ap (λ (x : State). withRegisters x (f (registersOf x))) et)

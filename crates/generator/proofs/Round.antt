@@ -29,7 +29,7 @@ mixed-lt : (kind : Kind) (f x : ℕ) → f < 2 ^ 64 → x < 2 ^ 64 → mixed kin
 mixed-lt Ordinary f x hf hx = hx
 mixed-lt Initial f x hf hx = xor-lt 64 x f hx hf
 
--- mixing in twice is not at all
+-- mixing in twice changes nothing
 mixed-mixed : (kind : Kind) (f x : ℕ) → mixed kind f (mixed kind f x) ≡ x
 mixed-mixed Ordinary f x = refl
 mixed-mixed Initial f x = xor-cancel-r x f
@@ -37,9 +37,14 @@ mixed-mixed Initial f x = xor-cancel-r x f
 same : {c c′ : List ℕ} {x x′ y y′ : ℕ} → c ≡ c′ → x ≡ x′ → y ≡ y′ → _≡_ {A = Registers} (record { cells = c; r1 = x; r2 = y }) (record { cells = c′; r1 = x′; r2 = y′ })
 same p q r = cc
 
-module _ {t tInverse alpha alphaInverse : ℕ → ℕ}
-    (inverse-t : UndoesWord tInverse t) (t-inverse : UndoesWord t tInverse)
-    (inverse-alpha : UndoesWord alphaInverse alpha) (alpha-inverse : UndoesWord alpha alphaInverse)
+-- two pairs of maps that undo each other on words
+pub record Inverses (t tInverse alpha alphaInverse : ℕ → ℕ) : Type 0 where
+  pub inverse-t : UndoesWord tInverse t
+  pub t-inverse : UndoesWord t tInverse
+  pub inverse-alpha : UndoesWord alphaInverse alpha
+  pub alpha-inverse : UndoesWord alpha alphaInverse
+
+module _ {t tInverse alpha alphaInverse : ℕ → ℕ} (u : Inverses t tInverse alpha alphaInverse)
     (kind : Kind) (r : Registers) (w : EighteenWords r) where
   -- ---- forward, then back
 
@@ -56,7 +61,7 @@ module _ {t tInverse alpha alphaInverse : ℕ → ℕ}
   last-lt =
       mixed-lt kind f fed (F-lt (cell r 15) (r .r1) (r .r2) (w .r2-lt))
       (xor-lt 64 (bitXor (alpha (cell r 0)) (alphaInverse (cell r 11))) (cell r 13)
-      (xor-lt 64 (alpha (cell r 0)) (alphaInverse (cell r 11)) (inverse-alpha (cell r 0) (w .cell-lt 0) .0) (alpha-inverse (cell r 11) (w .cell-lt 11) .0)) (w .cell-lt 13))
+      (xor-lt 64 (alpha (cell r 0)) (alphaInverse (cell r 11)) (u .inverse-alpha (cell r 0) (w .cell-lt 0) .0) (u .alpha-inverse (cell r 11) (w .cell-lt 11) .0)) (w .cell-lt 13))
 
   pub next-words : EighteenWords (nextWith t alpha alphaInverse kind r)
   unfolding nextWith
@@ -65,7 +70,7 @@ module _ {t tInverse alpha alphaInverse : ℕ → ℕ}
         sixteen = simp (length-append, length-drop) (omega (arith, w .sixteen));
         cell-lt = append-lt word-pos (drop 1 (r .cells)) (last ∷ []) (drop-lt 1 (r .cells) (w .cell-lt)) (cons-lt word-pos last [] last-lt (λ j. word-pos));
         r1-lt = mod-lt (r .r2 + cell r 13) word-pos;
-        r2-lt = inverse-t (r .r1) (w .r1-lt) .0;
+        r2-lt = u .inverse-t (r .r1) (w .r1-lt) .0;
       }
 
   pub previous-next : previousWith tInverse alphaInverse kind (nextWith t alpha alphaInverse kind r) ≡ r
@@ -73,7 +78,7 @@ module _ {t tInverse alpha alphaInverse : ℕ → ℕ}
   previous-next =
       let l = r .cells in
       let h = w .sixteen in
-      let r1 = inverse-t (r .r1) (w .r1-lt) .1 in
+      let r1 = u .inverse-t (r .r1) (w .r1-lt) .1 in
       let r2 = difference-sum (r .r2) (cell r 13) (w .r2-lt) (w .cell-lt 13) in
       let at-15 = shift-in-last l last h in
       let at-14 = shift-in-at l last h 14 (lit< tt) in
@@ -83,7 +88,7 @@ module _ {t tInverse alpha alphaInverse : ℕ → ℕ}
       let xored = xor-cancel-r (bitXor (alpha (cell r 0)) (alphaInverse (cell r 11))) (cell r 13) in
       let xored′ = xor-cancel-r (alpha (cell r 0)) (alphaInverse (cell r 11)) in
       same
-      (rw (at-15, at-14, at-12, at-10, r1, r2, unmixed, xored, xored′, inverse-alpha (cell r 0) (w .cell-lt 0) .1, shift-in-rest l last h) (first-rest l h))
+      (rw (at-15, at-14, at-12, at-10, r1, r2, unmixed, xored, xored′, u .inverse-alpha (cell r 0) (w .cell-lt 0) .1, shift-in-rest l last h) (first-rest l h))
       r1
       (rw at-12 r2)
 
@@ -100,15 +105,15 @@ module _ {t tInverse alpha alphaInverse : ℕ → ℕ}
       xor-lt 64 (bitXor unmixed (cell r 12)) (alphaInverse (cell r 10))
       (xor-lt 64 unmixed (cell r 12)
       (mixed-lt kind _ (cell r 15) (F-lt (cell r 14) (earlierR1 tInverse r) (earlierR2 r) (mod-lt _ word-pos)) (w .cell-lt 15)) (w .cell-lt 12))
-      (alpha-inverse (cell r 10) (w .cell-lt 10) .0)
+      (u .alpha-inverse (cell r 10) (w .cell-lt 10) .0)
 
   pub previous-words : EighteenWords (previousWith tInverse alphaInverse kind r)
   unfolding previousWith
   previous-words =
       record {
         sixteen = ap suc (length-take 15 (r .cells) ∙ omega (arith, w .sixteen));
-        cell-lt = cons-lt word-pos (alphaInverse alphaS0) (take 15 (r .cells)) (alpha-inverse alphaS0 alphaS0-lt .0) (take-lt word-pos 15 (r .cells) (w .cell-lt));
-        r1-lt = t-inverse (r .r2) (w .r2-lt) .0;
+        cell-lt = cons-lt word-pos (alphaInverse alphaS0) (take 15 (r .cells)) (u .alpha-inverse alphaS0 alphaS0-lt .0) (take-lt word-pos 15 (r .cells) (w .cell-lt));
+        r1-lt = u .t-inverse (r .r2) (w .r2-lt) .0;
         r2-lt = mod-lt _ word-pos;
       }
 
@@ -123,6 +128,6 @@ module _ {t tInverse alpha alphaInverse : ℕ → ℕ}
       let xored′ = xor-cancel-r unmixed (cell r 12) in
       let mixed-again = mixed-mixed kind (F (cell r 14) (earlierR1 tInverse r) (earlierR2 r)) (cell r 15) in
       same
-      (rw (at-10, at-12, at-14, alpha-inverse alphaS0 alphaS0-lt .1, xored, xored′, mixed-again) (rest-last l (w .sixteen)))
+      (rw (at-10, at-12, at-14, u .alpha-inverse alphaS0 alphaS0-lt .1, xored, xored′, mixed-again) (rest-last l (w .sixteen)))
       (rw at-12 (sum-difference (r .r1) (cell r 12) (w .r1-lt) (w .cell-lt 12)))
-      (t-inverse (r .r2) (w .r2-lt) .1)
+      (u .t-inverse (r .r2) (w .r2-lt) .1)

@@ -9,7 +9,7 @@ use Rattle.substitution.specs.Substitution.{lookUp, lookUpThrough}
 use Rattle.generator.specs.declared.State.{State}
 use Rattle.generator.specs.declared.Stepped.{Stepped}
 use Rattle.generator.specs.declared.Kind.{Kind}
-use Rattle.generator.specs.Registers.{Registers, registersOf, withRegisters, feedbackWith, nextWith, previousWith, keystreamWord, iterate}
+use Rattle.generator.specs.Registers.{Registers, registersOf, withRegisters, feedbackWith, nextWith, previousWith, keystreamWord}
 
 abbrev pub feedbackBy : (alpha alphaInverse : List ℕ) → List ℕ → ℕ
 feedbackBy alpha alphaInverse = feedbackWith (alphaTimesWith (at alpha)) (alphaInverseTimesWith (at alphaInverse))
@@ -28,10 +28,3 @@ stepBy tables alpha alphaInverse kind s =
 
 abbrev pub stepBackBy : (columns bytes : List (List ℕ)) (alphaInverse : List ℕ) → Kind → State → State
 stepBackBy columns bytes alphaInverse kind s = withRegisters s (previousBy columns bytes alphaInverse kind (registersOf s))
-
--- n steps, and n steps back
-abbrev pub forwardBy : (tables : List (List ℕ)) (alpha alphaInverse : List ℕ) → Kind → ℕ → State → State
-forwardBy tables alpha alphaInverse kind n s = withRegisters s (iterate (nextBy tables alpha alphaInverse kind) n (registersOf s))
-
-abbrev pub backwardBy : (columns bytes : List (List ℕ)) (alphaInverse : List ℕ) → Kind → ℕ → State → State
-backwardBy columns bytes alphaInverse kind n s = withRegisters s (iterate (previousBy columns bytes alphaInverse kind) n (registersOf s))

@@ -107,3 +107,7 @@ keystreamWord r = bitXor (F (cell r 15) (r .r1) (r .r2)) (cell r 0)
 abbrev pub iterate : {A : Type 0} → (A → A) → ℕ → A → A
 iterate f zero x = x
 iterate f (suc n) x = f (iterate f n x)
+
+-- a state n steps on, by the step f
+abbrev pub walked : (Registers → Registers) → ℕ → State → State
+walked f n s = withRegisters s (iterate f n (registersOf s))

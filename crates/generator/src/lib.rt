@@ -2,8 +2,8 @@
 ghost use mathlib.Core.Path.{_≡_};
 ghost use mathlib.Core.List.{[], _∷_, _++_};
 ghost use lib.ListN.{drop, take};
-ghost use Rattle.generator.specs.Registers.{F, difference, mixed};
-ghost use Rattle.generator.specs.Functions.{feedbackBy, stepBy, stepBackBy, forwardBy, backwardBy};
+ghost use Rattle.generator.specs.Registers.{F, difference, mixed, walked};
+ghost use Rattle.generator.specs.Functions.{feedbackBy, nextBy, previousBy, stepBy, stepBackBy};
 use galois::alpha_inverse_times_by_table;
 use galois::alpha_times_by_table;
 use std::num::wrapping_add_u64;
@@ -181,7 +181,7 @@ pub fn forward(
     alpha: &[u64; 256],
     inverse: &[u64; 256],
 ) -> State
-    ensures { λ r. ⌜ r ≡ forwardBy (now (tables .entry)) (now (alpha .entry)) (now (inverse .entry)) kind n s ⌝ }
+    ensures { λ r. ⌜ r ≡ walked (nextBy (now (tables .entry)) (now (alpha .entry)) (now (inverse .entry)) kind) n s ⌝ }
 {
     let mut t = s;
     let mut taken: u64 = 0;
@@ -202,7 +202,7 @@ pub fn backward(
     bytes: &[[u8; 256]; 4],
     inverse: &[u64; 256],
 ) -> State
-    ensures { λ r. ⌜ r ≡ backwardBy (now (columns .entry)) (now (bytes .entry)) (now (inverse .entry)) kind n s ⌝ }
+    ensures { λ r. ⌜ r ≡ walked (previousBy (now (columns .entry)) (now (bytes .entry)) (now (inverse .entry)) kind) n s ⌝ }
 {
     let mut t = s;
     let mut undone: u64 = 0;

@@ -6,17 +6,18 @@ use mathlib.Core.Bool.{Bool, true, false, cond}
 use mathlib.Core.List.{List, [], _∷_, map, reverse, reverse-reverse}
 use Prim.Native.Nat.{ℕ, zero, suc, _*_, _/_, _^_, _<_}
 use native.Mathlib.Omega.{arith}
-use lib.Dec.{T, eqb, lit<}
+use lib.Dec.{T, eqb, ltb, ltb→lt, lit<}
 use lib.ListN.{length, length-map, length-reverse}
 use Rattle.galois.specs.Words.{at}
-use Rattle.galois.proofs.Computed.{allBelow}
+use Rattle.galois.proofs.Computed.{both, both-left, both-right, allBelow}
 use Rattle.generator.specs.declared.Kind.the-variants.{Ordinary, Initial}
 use Rattle.generator.specs.Registers.{Registers, EighteenWords}
 use Rattle.generator.specs.GeneratorLaws.{OneToOne}
 use Rattle.generator.proofs.Iterate.{undone-one-to-one}
 use Rattle.generator.proofs.GeneratorLaws.{generator-laws}
-use Rattle.loading.specs.Loading.{KeyAndIv, wordOf, Row, rowsOf, loadedCell, loadedCells, sizeMark, load, initialised, registersAt}
-use Rattle.loading.specs.LoadingLaws.{LoadingLaws}
+use Rattle.loading.specs.Loading.{Bytes, KeyAndIv, wordOf, Row, rowsOf, loadedCell, loadedCells, sizeMark, load, initialised, registersAt}
+use Rattle.loading.specs.LoadingLaws.{OneToOneInBoth, LoadingLaws}
+use Rattle.loading.specs.WorkedTable.{zeros, key11, iv11}
 use Rattle.loading.proofs.Strings.{reverse-lt, wordOf-lt, string-ext}
 use Rattle.loading.proofs.Rows.{holdsKey, holdsIv, someRow, same-key, same-iv, loadedCell-lt}
 
@@ -88,13 +89,32 @@ one-to-one-in-key key key′ iv o o′ z e =
     whole (inl l) = let e : length key ≡ 32 = omega arith in rw e
     whole (inr l) = let e : length key ≡ 64 = omega arith in rw e
 
-one-to-one-in-both : (key iv key′ iv′ : List ℕ) → KeyAndIv key iv → KeyAndIv key′ iv′ → sizeMark key ≡ 256 → sizeMark key′ ≡ 256 → load key iv ≡ load key′ iv′ → (key ≡ key′) × (iv ≡ iv′)
-one-to-one-in-both key iv key′ iv′ o o′ z z′ e =
+one-to-one-in-both-256 : OneToOneInBoth 256
+one-to-one-in-both-256 key iv key′ iv′ o o′ z z′ e =
     let rows = same-rows 256 key iv key′ iv′ z z′ e in
     let words = same-key (wordOf key) (wordOf iv) (wordOf key′) (wordOf iv′) (rowsOf 256) rows false 4 keys-found-alone (λ t j. absurd t) in (
       string-ext 4 key key′ (omega arith) (omega arith) (o .key-bytes) (o′ .key-bytes) words,
       string-ext 4 iv iv′ (o .iv-length) (o′ .iv-length) (o .iv-bytes) (o′ .iv-bytes) (same-iv (wordOf key) (wordOf iv) (wordOf key′) (wordOf iv′) (rowsOf 256) rows 4 4 ivs-found words),
     )
+
+-- ---- case 11: two pairs that load alike
+
+abbrev bytesTest : List ℕ → Bool
+bytesTest [] = true
+bytesTest (x ∷ l) = both (ltb x 256) (bytesTest l)
+
+tested-bytes : (l : List ℕ) → T (bytesTest l) → Bytes l
+tested-bytes [] t j = lit< tt
+tested-bytes (x ∷ l) t zero = ltb→lt x 256 (both-left (ltb x 256) (bytesTest l) t)
+tested-bytes (x ∷ l) t (suc j) = tested-bytes l (both-right (ltb x 256) (bytesTest l) t) j
+
+not-one-to-one-in-both-512 : OneToOneInBoth 512 → ⊥
+unfolding wordOf loadedCells load
+not-one-to-one-in-both-512 h =
+    let case11 : KeyAndIv key11 iv11 = record { key-bytes = tested-bytes key11 tt; key-length = inr refl; iv-bytes = tested-bytes iv11 tt; iv-length = refl } in
+    let case0 : KeyAndIv (zeros 64) (zeros 32) = record { key-bytes = tested-bytes (zeros 64) tt; key-length = inr refl; iv-bytes = tested-bytes (zeros 32) tt; iv-length = refl } in
+    let e = h key11 iv11 (zeros 64) (zeros 32) case11 case0 refl refl refl .0 in
+    absurd (omega (arith, ap (λ (l : List ℕ). at l 31) e))
 
 -- ---- and after n steps
 
@@ -122,7 +142,8 @@ loading-laws =
     record {
       loads-words = loads-words;
       one-to-one-in-key = one-to-one-in-key;
-      one-to-one-in-both = one-to-one-in-both;
+      one-to-one-in-both-256 = one-to-one-in-both-256;
+      not-one-to-one-in-both-512 = not-one-to-one-in-both-512;
       registers-one-to-one-in-key = λ key key′ iv o o′ z n e. one-to-one-in-key key key′ iv o o′ z (loaded-alike key iv key′ iv o o′ n e);
-      registers-one-to-one-in-both = λ key iv key′ iv′ o o′ z z′ n e. one-to-one-in-both key iv key′ iv′ o o′ z z′ (loaded-alike key iv key′ iv′ o o′ n e);
+      registers-one-to-one-in-both = λ key iv key′ iv′ o o′ z z′ n e. one-to-one-in-both-256 key iv key′ iv′ o o′ z z′ (loaded-alike key iv key′ iv′ o o′ n e);
     }

@@ -20,7 +20,7 @@ abbrev ones : ℕ
 ones = 0xFFFFFFFFFFFFFFFF
 
 -- n bytes of zero
-abbrev zeros : ℕ → List ℕ
+abbrev pub zeros : ℕ → List ℕ
 zeros n = replicate n 0
 
 -- the eight bytes of a word below 256, most significant first
@@ -36,10 +36,10 @@ abbrev stepped : Kind → List ℕ
 stepped kind = next kind zero256 .r1 ∷ next kind zero256 .r2 ∷ cell (next kind zero256) 15 ∷ []
 
 -- "512, all words zero but K4 = IV3 = IV1 = 1": K7 K6 K5 K4 K3 K2 K1 K0, and IV3 IV2 IV1 IV0
-abbrev key11 : List ℕ
+abbrev pub key11 : List ℕ
 key11 = wordBytes 0 ++ wordBytes 0 ++ wordBytes 0 ++ wordBytes 1 ++ wordBytes 0 ++ wordBytes 0 ++ wordBytes 0 ++ wordBytes 0
 
-abbrev iv11 : List ℕ
+abbrev pub iv11 : List ℕ
 iv11 = wordBytes 1 ++ wordBytes 0 ++ wordBytes 1 ++ wordBytes 0
 
 -- "the cells equal those for all zero, where s14, s11, s9, s7 are FFFFFFFFFFFFFFFF": s0 first

@@ -9,7 +9,7 @@ use borrow.Author.Tests.{lt-ltb, le-ltb, ltb-false}
 use lib.IntN.{ℤ, pos, negsuc, natAbs, _+ℤ_}
 use Rattle.generator.specs.declared.State.{State}
 use Rattle.generator.specs.declared.Kind.the-variants.{Ordinary}
-use Rattle.generator.specs.Registers.{registersOf, stateOf, withRegisters, next, previous, iterate}
+use Rattle.generator.specs.Registers.{registersOf, stateOf, next, previous, walked}
 use Rattle.strumok.specs.declared.Span.{Span}
 use Rattle.strumok.specs.Refusals.{Test, limit, accepted, newPositionAbove, newPositionBelow, sizeMarkTest, positionTest, newPositionAboveTest, newPositionBelowTest, stateTests, returned, WellFormed}
 use Rattle.strumok.specs.Moving.{movedTo, newPosition, movingTests, moved}
@@ -19,11 +19,11 @@ use Rattle.strumok.proofs.Tests.{returned-first, returned-rest, returne
 -- ---- the walk
 
 module _ (s : State) (to : ℕ) where
-  pub moved-ahead : {t : State} → s .position / 8 ≤ to / 8 → t ≡ withRegisters s (iterate (next Ordinary) (to / 8 - s .position / 8) (registersOf s)) → stateOf (registersOf t) (t .size) to ≡ movedTo s to
+  pub moved-ahead : {t : State} → s .position / 8 ≤ to / 8 → t ≡ walked (next Ordinary) (to / 8 - s .position / 8) s → stateOf (registersOf t) (t .size) to ≡ movedTo s to
   unfolding movedTo
   moved-ahead h e = let z : s .position / 8 - to / 8 ≡ 0 = omega arith in rw (e, z)
 
-  pub moved-behind : {t : State} → to / 8 < s .position / 8 → t ≡ withRegisters s (iterate (previous Ordinary) (s .position / 8 - to / 8) (registersOf s)) → stateOf (registersOf t) (t .size) to ≡ movedTo s to
+  pub moved-behind : {t : State} → to / 8 < s .position / 8 → t ≡ walked (previous Ordinary) (s .position / 8 - to / 8) s → stateOf (registersOf t) (t .size) to ≡ movedTo s to
   unfolding movedTo
   moved-behind h e = let z : to / 8 - s .position / 8 ≡ 0 = omega arith in rw (e, z)
 

@@ -1,4 +1,4 @@
--- What the code of loading and opening makes, equated with the definitions.
+-- What an accepted opening tells, and what the code of opening makes, equated with the definition.
 -- Assumes nothing.
 use mathlib.Core.Path.{_≡_, _∙_}
 use mathlib.Core.Logic.{_⊎_, inl, inr}

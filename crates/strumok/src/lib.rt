@@ -1,7 +1,7 @@
 // The cipher's calls: opening a state from key and IV, and moving it.
 ghost use mathlib.Core.Path.{_≡_};
 ghost use Rattle.generator.specs.declared.Kind.the-variants.{Ordinary};
-ghost use Rattle.generator.specs.Registers.{registersOf, withRegisters, next, previous, iterate};
+ghost use Rattle.generator.specs.Registers.{registersOf, withRegisters, next, previous, walked};
 ghost use Rattle.loading.specs.Loading.{initialised};
 ghost use Rattle.strumok.specs.Refusals.{stateTests, returned};
 ghost use Rattle.strumok.specs.Opening.{blank, openingTests, opened};
@@ -140,7 +140,7 @@ fn span_of(distance: i64) -> Span
 
 // n ordinary steps, the tables taken once.
 fn walk_on(s: State, n: u64) -> State
-    ensures { λ r. ⌜ r ≡ withRegisters s (iterate (next Ordinary) n (registersOf s)) ⌝ }
+    ensures { λ r. ⌜ r ≡ walked (next Ordinary) n s ⌝ }
 {
     let tables = substitution_tables();
     let alpha = alpha_table();
@@ -150,7 +150,7 @@ fn walk_on(s: State, n: u64) -> State
 
 // n ordinary steps back, the tables taken once.
 fn walk_back(s: State, n: u64) -> State
-    ensures { λ r. ⌜ r ≡ withRegisters s (iterate (previous Ordinary) n (registersOf s)) ⌝ }
+    ensures { λ r. ⌜ r ≡ walked (previous Ordinary) n s ⌝ }
 {
     let columns = matrix_inverse_tables();
     let bytes = pi_inverse_tables();

@@ -2,9 +2,8 @@
 -- Assumes nothing.
 use mathlib.Core.Path.{ap, _∙_}
 use borrow.Author.Needs.{needs}
-use Rattle.generator.specs.declared.State.{State}
 use Rattle.generator.specs.declared.Kind.the-variants.{Ordinary, Initial}
-use Rattle.generator.specs.Registers.{registersOf, withRegisters, next, iterate}
+use Rattle.generator.specs.Registers.{next, walked}
 use Rattle.generator.proofs.GeneratorLaws.{forward-by-tables}
 use Rattle.loading.specs.Loading.{initialised}
 use Rattle.strumok.proofs.initialise.Statement.{statement}
@@ -19,7 +18,7 @@ returns c =
     let t = a .before in
     let by = forward-by-tables (t .substitution-tables .ensures) (a .alpha-table .ensures) (i .alpha-inverse-table .ensures) in
     c .forward2 .ensures ∙ by Ordinary 1 (f .forward .result)
-    ∙ ap (λ (s : State). withRegisters s (iterate (next Ordinary) 1 (registersOf s))) (f .forward .ensures ∙ by Initial 32 (t .before .args .s))
+    ∙ ap (walked (next Ordinary) 1) (f .forward .ensures ∙ by Initial 32 (t .before .args .s))
 
 pub initialise-spec : {M : Type 1} → statement M
 initialise-spec =
