@@ -11,7 +11,7 @@ use std::num::wrapping_sub_u64;
 use substitution::substitute_word_by_tables;
 use substitution::substitute_word_inverse_by_tables;
 
-// The cells s0..s15, the registers r1 and r2, the size mark and the byte position.
+// The cells s0..s15, the registers r1 and r2, the size mark (256 or 512) and the byte position, which is the point that the state claims.
 pub struct State {
     pub cells: [u64; 16],
     pub r1: u64,

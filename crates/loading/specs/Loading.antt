@@ -63,7 +63,7 @@ loadedCell k v (KxorIV i j) = bitXor (k i) (v j)
 unfoldable pub loadedCells : List Row → (k v : ℕ → ℕ) → List ℕ
 loadedCells rows k v = reverse (map (loadedCell k v) rows)
 
--- "size mark 8 × the key length in bytes"
+-- document 01's size mark: "size mark 8 × the key length in bytes"
 abbrev pub sizeMark : (key : List ℕ) → ℕ
 sizeMark key = 8 * length key
 

@@ -32,7 +32,7 @@ pub record Accepted (key iv : List ℕ) : Type 0 where
   pub iv-bytes : Bytes iv
   pub opens : opened key iv .number ≡ accepted
 
--- "For a key and IV that opening accepts .. Such a key with that IV leads to a state when the state's size mark is 8 × the key length in
+-- document 01's "leads to": "For a key and IV that opening accepts .. Such a key with that IV leads to a state when the state's size mark is 8 × the key length in
 -- bytes and its registers are those of S_n for n = floor(position/8)."
 pub record Leads (key iv : List ℕ) (s : State) : Type 0 where
   pub opening : Accepted key iv
