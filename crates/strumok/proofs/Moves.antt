@@ -1,7 +1,7 @@
 -- Where a move ends, and its answer there.
 -- Assumes nothing.
 use mathlib.Core.Path.{_≡_, sym, ap, _∙_}
-use mathlib.Core.Bool.{true, false}
+use mathlib.Core.Bool.{true, false, true≢false}
 use mathlib.Core.List.{List, [], _∷_}
 use Prim.Native.Nat.{ℕ, suc, _-_, _/_, _<_, _≤_, zero-le}
 use native.Mathlib.Omega.{arith}
@@ -30,12 +30,12 @@ module _ (s : State) (to : ℕ) where
 -- ---- the span of a distance
 
 pub is-back : (d : ℤ) (k : Span) → k ≡ spanOf d → k .back ≡ true → d ≡ negsuc (k .count)
-is-back (pos n) k e b = let z : _≡_ {A = ℕ} 0 1 = cc in absurd (omega arith)
+is-back (pos n) k e b = absurd (true≢false (sym b ∙ ap (λ (x : Span). x .back) e))
 is-back (negsuc n) k e b = ap (λ (x : Span). negsuc (x .count)) (sym e)
 
 pub is-ahead : (d : ℤ) (k : Span) → k ≡ spanOf d → k .back ≡ false → d ≡ pos (k .count)
 is-ahead (pos n) k e b = ap (λ (x : Span). pos (x .count)) (sym e)
-is-ahead (negsuc n) k e b = let z : _≡_ {A = ℕ} 0 1 = cc in absurd (omega arith)
+is-ahead (negsuc n) k e b = absurd (true≢false (sym (ap (λ (x : Span). x .back) e) ∙ b))
 
 pub back-below : (p n : ℕ) → p ≤ n → pos p +ℤ negsuc n ≡ negsuc (n - p)
 back-below p n h = let e : suc n - suc p ≡ n - p = omega arith in rw (lt-ltb p (suc n) (omega arith), e)

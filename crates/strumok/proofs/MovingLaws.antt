@@ -16,7 +16,7 @@ use Rattle.strumok.specs.Moving.{walk, movedTo, newPosition, moved}
 use Rattle.strumok.specs.MovingLaws.{MovingLaws}
 use Rattle.strumok.proofs.Tests.{returned-none}
 use Rattle.strumok.proofs.Opened.{key-and-iv}
-use Rattle.strumok.proofs.Moves.{endTests, moves-to}
+use Rattle.strumok.proofs.Moves.{endTests, position-le, moves-to}
 use Rattle.loading.proofs.LoadingLaws.{initialised-words, loading-laws}
 use Rattle.strumok.proofs.Walks.{walk-from, walk-walk, walk-same}
 
@@ -51,13 +51,11 @@ new-position s d e = ap (λ (t : State). pos (t .position)) (moved-state s d e) 
 
 moved-moved : (s : State) (p q : ℕ) → EighteenWords (registersOf s) → movedTo (movedTo s p) q ≡ movedTo s q
 unfolding movedTo
-moved-moved s p q w =
-    ap (λ (r : Registers). stateOf r (s .size) q) (walk-walk (registersOf s) w (s .position / 8) (p / 8) (q / 8))
+moved-moved s p q w = ap (λ (r : Registers). stateOf r (s .size) q) (walk-walk (registersOf s) w (s .position / 8) (p / 8) (q / 8))
 
 moved-here : (s : State) → movedTo s (s .position) ≡ s
 unfolding movedTo
-moved-here s =
-    ap (withRegisters s) (walk-same (s .position / 8) (registersOf s))
+moved-here s = ap (withRegisters s) (walk-same (s .position / 8) (registersOf s))
 
 -- a well-formed state is so at any position that is not above the last
 moved-well-formed : (s : State) (to : ℕ) → WellFormed s → to ≤ limit → WellFormed (movedTo s to)
@@ -74,9 +72,8 @@ there-and-back s d w e =
     let t = movedTo s (end .to) in
     let back : newPosition t (negℤ d) ≡ pos (s .position) =
     ap (λ (p : ℕ). pos p +ℤ negℤ d) (position-moved s (end .to)) ∙ ap (λ (z : ℤ). z +ℤ negℤ d) (sym (end .there)) ∙ +ℤ-negℤ-cancel (pos (s .position)) d in
-    let low = ltb-false limit (s .position) (returned-none (positionTest s) [] tt (returned-none (sizeMarkTest s) (positionTest s ∷ []) tt (end .well-formed) .1) .0) in
     ap (λ (x : State). moved x (negℤ d)) (moved-state s d e)
-    ∙ sym (moves-to t (negℤ d) (moved-well-formed s (end .to) (end .well-formed) (end .low)) back low (sym (moved-moved s (end .to) (s .position) w ∙ moved-here s)))
+    ∙ sym (moves-to t (negℤ d) (moved-well-formed s (end .to) (end .well-formed) (end .low)) back (position-le s (end .well-formed)) (sym (moved-moved s (end .to) (s .position) w ∙ moved-here s)))
 
 -- ---- where a key leads
 
