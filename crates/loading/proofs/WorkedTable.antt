@@ -1,8 +1,10 @@
 -- The worked table, by computation.
 -- Assumes nothing.
-use mathlib.Core.Path.{refl}
+use mathlib.Core.Path.{_≡_, refl, sym}
 use Rattle.galois.specs.Field.{gmul}
-use Rattle.galois.specs.Alpha.{alphaTimes, alphaInverseTimes}
+use Rattle.galois.specs.Alpha.{scaled, alphaRow, alphaInverseRow, alphaTable, alphaInverseTable, alphaTimes, alphaInverseTimes}
+use Rattle.galois.proofs.Spread.{spread, spread-is}
+use Rattle.galois.proofs.AlphaLaws.{scaled-linear}
 use Rattle.substitution.specs.Pi.{piInverse, through}
 use Rattle.substitution.specs.Matrix.{rowTimes, circulantTimes}
 use Rattle.substitution.specs.Substitution.{substitute, substituteInverse}
@@ -10,6 +12,15 @@ use Rattle.generator.specs.Registers.{F, nextWith}
 use Rattle.loading.specs.Loading.{wordOf, loadedCells, load}
 use Rattle.loading.specs.WorkedTable.{WorkedTable}
 
+-- the tables of α, worked out from their entries at the powers of two
+first-table : alphaTable ≡ spread (scaled alphaRow) 8
+unfolding alphaTable
+first-table = sym (spread-is (scaled alphaRow) (scaled-linear alphaRow) 8)
+
+second-table : alphaInverseTable ≡ spread (scaled alphaInverseRow) 8
+unfolding alphaInverseTable
+second-table = sym (spread-is (scaled alphaInverseRow) (scaled-linear alphaInverseRow) 8)
+
 pub worked-table : WorkedTable
 unfolding gmul alphaTimes alphaInverseTimes piInverse through rowTimes circulantTimes substitute substituteInverse F nextWith wordOf loadedCells load
-worked-table = refl
+worked-table = rw (first-table, second-table) refl

@@ -5,7 +5,8 @@ use mathlib.Core.Path.{_≡_}
 use mathlib.Core.List.{List, [], _∷_, _++_, map}
 use Prim.Native.Nat.{ℕ}
 use lib.ListN.{replicate}
-use Rattle.galois.specs.Alpha.{alphaEntry, alphaInverseEntry, alphaTimes}
+use Rattle.galois.specs.Words.{at}
+use Rattle.galois.specs.Alpha.{alphaTable, alphaInverseTable, alphaTimes}
 use Rattle.substitution.specs.Substitution.{substitute, substituteInverse}
 use Rattle.generator.specs.declared.Kind.{Kind}
 use Rattle.generator.specs.declared.Kind.the-variants.{Ordinary, Initial}
@@ -49,13 +50,13 @@ cells11 = 0 ∷ 0 ∷ 0 ∷ 0 ∷ 0 ∷ 0 ∷ 0 ∷ ones ∷ 0 ∷ ones ∷ 0 �
 abbrev pub workedRows : List Worked
 workedRows =
     -- 1. First table, entry 01: D73F04125E000004.
-    record { computed = alphaEntry 0x01 ∷ []; expected = 0xD73F04125E000004 ∷ [] }
+    record { computed = at alphaTable 0x01 ∷ []; expected = 0xD73F04125E000004 ∷ [] }
     -- 2. First table, entry 02: B37E0824BC000008.
-    ∷ record { computed = alphaEntry 0x02 ∷ []; expected = 0xB37E0824BC000008 ∷ [] }
+    ∷ record { computed = at alphaTable 0x02 ∷ []; expected = 0xB37E0824BC000008 ∷ [] }
     -- 3. Second table, entry 01: 47FCC6018A990000.
-    ∷ record { computed = alphaInverseEntry 0x01 ∷ []; expected = 0x47FCC6018A990000 ∷ [] }
+    ∷ record { computed = at alphaInverseTable 0x01 ∷ []; expected = 0x47FCC6018A990000 ∷ [] }
     -- 4. Second table, entry 02: 8EE59102092F0000.
-    ∷ record { computed = alphaInverseEntry 0x02 ∷ []; expected = 0x8EE59102092F0000 ∷ [] }
+    ∷ record { computed = at alphaInverseTable 0x02 ∷ []; expected = 0x8EE59102092F0000 ∷ [] }
     -- 5. α times 47FCC6018A990000 is 0000000000000001.
     ∷ record { computed = alphaTimes 0x47FCC6018A990000 ∷ []; expected = 0x0000000000000001 ∷ [] }
     -- 6. T(0) = 14E6CC3F14E6CC3F, and the inverse takes it to 0.
