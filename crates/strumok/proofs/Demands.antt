@@ -4,7 +4,7 @@ use mathlib.Core.Path.{_≡_, refl, sym, _∙_, subst}
 use mathlib.Core.Logic.{_⊎_, inl, inr}
 use mathlib.Core.Bool.{Bool, true, false, true≢false, cond, not, _||_}
 use mathlib.Core.List.{List, [], _∷_}
-use Prim.Native.Nat.{ℕ, _<_}
+use Prim.Native.Nat.{ℕ, _+_, _<_}
 use borrow.Author.Tests.{eqb-true, eqb-false, ne-eqb, ltb-true, ltb-false, not-true, not-false}
 use native.Mathlib.Nat.{not-le-of-lt}
 use lib.Dec.{T, eqb, ltb}
@@ -13,13 +13,15 @@ use lib.ListN.{length}
 use lib.Signed.{ltZ, _<ℤ_}
 use Rattle.galois.proofs.Computed.{both-right}
 use Rattle.generator.specs.declared.State.{State}
-use Rattle.strumok.specs.Refusals.{Test, limit, accepted, returned, answer}
+use Rattle.strumok.specs.Refusals.{Test, limit, accepted, returned, answer, written}
 use Rattle.strumok.specs.Opening.{blank, openedState, openingTests}
 use Rattle.strumok.specs.Moving.{newPosition, movingTests}
-use Rattle.strumok.specs.Demands.{Line, openingLines, movingLines, Returned, NoneApplies, RefusesExactly, Refusals, OpeningsDiffer}
+use Rattle.strumok.specs.Applying.{applyingTests, windowTests}
+use Rattle.strumok.specs.Demands.{Line, openingLines, movingLines, applyingLines, windowLines, Returned, NoneApplies, RefusesExactly, Refusals, Keystream, OpeningsDiffer}
 use Rattle.strumok.proofs.Tests.{one-of, is-one-of, numbered, returned-none}
 use Rattle.loading.proofs.LoadingLaws.{loading-laws}
 use Rattle.strumok.proofs.Opened.{key-and-iv}
+use Rattle.strumok.proofs.Chains.{reached-leads, reached-position, keystream-at}
 
 -- ---- lists of tests that compute whether the lines apply
 
@@ -67,6 +69,9 @@ refuses-exactly ts lines made back n d =
       gives-back = λ h. rw (ne-eqb (returned ts) accepted h);
     }
 
+writes-nothing : (ts : List Test) (made held : List ℕ) → (returned ts ≡ accepted → ⊥) → written ts made held ≡ held
+writes-nothing ts made held h = rw (ne-eqb (returned ts) accepted h)
+
 -- ---- each test computes whether its line applies
 
 neither : (k n a b : ℕ) → Decides (record { number = k; applies = not (eqb n a || eqb n b) }) (record { number = k; When = (n ≡ a → ⊥) × (n ≡ b → ⊥) })
@@ -98,7 +103,24 @@ refusals =
       opening = λ key iv. refuses-exactly (openingTests key iv) (openingLines key iv) (openedState key iv) blank tt (neither 1 (length key) 32 64, (is-not 2 (length iv) 32, tt));
       moving = λ s d. refuses-exactly (movingTests s d) (movingLines s d) _ s tt
           (neither 3 (s .size) 256 512, (above 4 limit (s .position), (above-ℤ 7 (pos limit) (newPosition s d), (above-ℤ 8 (newPosition s d) (pos 0), tt))));
+      applying = λ s source target.
+          let tests = applyingTests s (length source) (length target) in (
+            refuses-exactly tests (applyingLines s source target) _ s tt
+                (neither 3 (s .size) 256 512, (above 4 limit (s .position), (above 5 (length target) (length source), (above 7 limit (s .position + length source), tt)))),
+            writes-nothing tests _ target,
+          );
+      window = λ s buffer start count.
+          let tests = windowTests s (length buffer) start count in (
+            refuses-exactly tests (windowLines s buffer start count) _ s tt
+                (neither 3 (s .size) 256 512, (above 4 limit (s .position), (above 6 (length buffer) (start + count), (above 7 limit (s .position + count), tt)))),
+            writes-nothing tests _ buffer,
+          );
     }
+
+-- ---- 2. Keystream
+
+pub keystream : Keystream
+keystream key iv calls s r = keystream-at key iv calls s (reached-leads r) (reached-position r)
 
 -- ---- 3. Stored states
 

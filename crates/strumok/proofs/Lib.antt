@@ -5,4 +5,7 @@ pub mod Moves
 pub mod Opened
 pub mod Walks
 pub mod MovingLaws
+pub mod Portions
+pub mod ApplyingLaws
+pub mod Chains
 pub mod Demands

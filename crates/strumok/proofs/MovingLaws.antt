@@ -53,16 +53,16 @@ moved-moved : (s : State) (p q : ℕ) → EighteenWords (registersOf s) → move
 unfolding movedTo
 moved-moved s p q w = ap (λ (r : Registers). stateOf r (s .size) q) (walk-walk (registersOf s) w (s .position / 8) (p / 8) (q / 8))
 
-moved-here : (s : State) → movedTo s (s .position) ≡ s
+pub moved-here : (s : State) → movedTo s (s .position) ≡ s
 unfolding movedTo
 moved-here s = ap (withRegisters s) (walk-same (s .position / 8) (registersOf s))
 
 -- a well-formed state is so at any position that is not above the last
-moved-well-formed : (s : State) (to : ℕ) → WellFormed s → to ≤ limit → WellFormed (movedTo s to)
+pub moved-well-formed : (s : State) (to : ℕ) → WellFormed s → to ≤ limit → WellFormed (movedTo s to)
 unfolding movedTo
 moved-well-formed s to e h = let size = returned-none (sizeMarkTest s) (positionTest s ∷ []) tt e in rw (size .0, le-ltb limit to h)
 
-position-moved : (s : State) (to : ℕ) → movedTo s to .position ≡ to
+pub position-moved : (s : State) (to : ℕ) → movedTo s to .position ≡ to
 unfolding movedTo
 position-moved s to = refl
 
@@ -91,7 +91,7 @@ opened-state key iv o = rw (o .opens)
 opened-leads : (key iv : List ℕ) → Accepted key iv → Leads key iv (opened key iv .state)
 opened-leads key iv o = subst (Leads key iv) (sym (opened-state key iv o)) (record { opening = o; size = refl; registers = refl })
 
-moved-to-leads : (key iv : List ℕ) (s : State) (to : ℕ) → Leads key iv s → Leads key iv (movedTo s to)
+pub moved-to-leads : (key iv : List ℕ) (s : State) (to : ℕ) → Leads key iv s → Leads key iv (movedTo s to)
 unfolding movedTo
 moved-to-leads key iv s to l =
     record {

@@ -10,7 +10,7 @@ use lib.Dec.{T, eqb}
 use Rattle.galois.proofs.Computed.{both}
 use Rattle.generator.specs.declared.State.{State}
 use Rattle.strumok.specs.declared.Answer.{Answer}
-use Rattle.strumok.specs.Refusals.{Test, accepted, returned, answer}
+use Rattle.strumok.specs.Refusals.{Test, accepted, returned, answer, written}
 
 -- ---- a number that is one of two
 
@@ -78,3 +78,12 @@ module _ (tests : List Test) (made back : State) where
 
   pub answer-accepted : {s : State} → returned tests ≡ accepted → s ≡ made → _≡_ {A = Answer} (record { number = accepted; state = s }) (answer tests made back)
   answer-accepted e es = sym (rw (e, es))
+
+-- ---- what a buffer is left with
+
+module _ (tests : List Test) (made held : List ℕ) where
+  pub written-refused : {n : ℕ} → n ≡ returned tests → (n ≡ accepted → ⊥) → held ≡ written tests made held
+  written-refused {n} e h = sym (rw (← e) (rw (ne-eqb n accepted h)))
+
+  pub written-accepted : {ys : List ℕ} → returned tests ≡ accepted → ys ≡ made → ys ≡ written tests made held
+  written-accepted e ey = sym (rw (e, ey))

@@ -2,7 +2,7 @@
 -- Assumes nothing.
 use mathlib.Core.Path.{_≡_, refl, sym, ap, _∙_}
 use mathlib.Core.Bool.{Bool, true, false}
-use Prim.Native.Nat.{ℕ, _+_, _-_}
+use Prim.Native.Nat.{ℕ, _+_, _-_, _≤_}
 use native.Mathlib.Omega.{arith}
 use borrow.Author.Tests.{leb-true, leb-false}
 use lib.Dec.{leb}
@@ -45,3 +45,12 @@ module _ (r : Registers) (w : EighteenWords r) where
 
 pub walk-same : (a : ℕ) (r : Registers) → walk a a r ≡ r
 walk-same a r = let z : a - a ≡ 0 = omega arith in rw z
+
+-- on, and further on: for any registers
+pub walk-on : (a b c : ℕ) (r : Registers) → a ≤ b → b ≤ c → walk b c (walk a b r) ≡ walk a c r
+walk-on a b c r h k =
+    let x : a - b ≡ 0 = omega arith in
+    let y : b - c ≡ 0 = omega arith in
+    let z : a - c ≡ 0 = omega arith in
+    let steps : c - a ≡ (b - a) + (c - b) = omega arith in
+    rw (x, y, z, steps) (sym (generator-laws .forward-compose Ordinary (b - a) (c - b) r))

@@ -1,18 +1,23 @@
--- The demands, as statements. Their proofs are proofs/Demands.antt: `refusals : Refusals` and `openings-differ : OpeningsDiffer`.
+-- The demands, as statements. Their proofs are proofs/Demands.antt: `refusals : Refusals`, `keystream : Keystream` and
+-- `openings-differ : OpeningsDiffer`.
 -- Assumes nothing.
 use mathlib.Core.Path.{_≡_}
 use mathlib.Core.Logic.{_⊎_}
 use mathlib.Core.List.{List, [], _∷_}
-use Prim.Native.Nat.{ℕ, _<_}
-use lib.IntN.{ℤ, pos}
-use lib.ListN.{length}
+use Prim.Native.Nat.{ℕ, _+_, _/_, _<_, _≤_}
+use lib.Bits.{bitXor}
+use lib.IntN.{ℤ, pos, _+ℤ_}
+use lib.ListN.{length, drop}
 use lib.Signed.{_<ℤ_}
+use Rattle.galois.specs.Words.{at}
 use Rattle.generator.specs.declared.State.{State}
+use Rattle.generator.specs.Registers.{registersOf}
 use Rattle.strumok.specs.declared.Answer.{Answer}
 use Rattle.loading.specs.Loading.{sizeMark, registersAt}
-use Rattle.strumok.specs.Refusals.{limit, accepted, keyLength, ivLength, badSizeMark, positionAbove, newPositionAbove, newPositionBelow}
+use Rattle.strumok.specs.Refusals.{limit, accepted, keyLength, ivLength, badSizeMark, positionAbove, targetShorter, windowPastEnd, newPositionAbove, newPositionBelow}
 use Rattle.strumok.specs.Opening.{blank, opened, Accepted}
 use Rattle.strumok.specs.Moving.{newPosition, moved}
+use Rattle.strumok.specs.Applying.{keystreamByte, applied, appliedTarget, windowed, windowedBuffer}
 
 -- ---- 1. Refusals
 
@@ -37,6 +42,24 @@ movingLines s distance =
     ∷ record { number = newPositionBelow; When = newPosition s distance <ℤ pos 0 }
     ∷ []
 
+-- "applying 3, 4, 5, 7"
+abbrev pub applyingLines : (s : State) (source target : List ℕ) → List Line
+applyingLines s source target =
+    record { number = badSizeMark; When = (s .size ≡ 256 → ⊥) × (s .size ≡ 512 → ⊥) }
+    ∷ record { number = positionAbove; When = limit < s .position }
+    ∷ record { number = targetShorter; When = length target < length source }
+    ∷ record { number = newPositionAbove; When = limit < s .position + length source }
+    ∷ []
+
+-- "the window 3, 4, 6, 7"
+abbrev pub windowLines : (s : State) (buffer : List ℕ) (start count : ℕ) → List Line
+windowLines s buffer start count =
+    record { number = badSizeMark; When = (s .size ≡ 256 → ⊥) × (s .size ≡ 512 → ⊥) }
+    ∷ record { number = positionAbove; When = limit < s .position }
+    ∷ record { number = windowPastEnd; When = length buffer < start + count }
+    ∷ record { number = newPositionAbove; When = limit < s .position + count }
+    ∷ []
+
 -- "The lowest number that applies is returned, and otherwise 0": n is the number of the first line that applies, and 0 where none does
 abbrev pub Returned : ℕ → List Line → Type 0
 Returned n [] = n ≡ accepted
@@ -53,11 +76,85 @@ pub record RefusesExactly (a : Answer) (lines : List Line) (back : State) : Type
   pub accepts-only : a .number ≡ accepted → NoneApplies lines
   pub gives-back : (a .number ≡ accepted → ⊥) → a .state ≡ back
 
+-- "nothing written": where the call is refused, a buffer that held these bytes is left with them
+abbrev pub WritesNothing : Answer → (held left : List ℕ) → Type 0
+WritesNothing a held left = (a .number ≡ accepted → ⊥) → left ≡ held
+
 -- "What 01's table names is refused, with its number, the state given back as it came (opening: a blank one), nothing written. All else is
--- accepted": for every key, IV, state and distance. Neither call is lent memory that it could write.
+-- accepted": for every key, IV, state, distance, source, target, buffer, start and count. Opening and moving are lent nothing to write.
 pub record Refusals : Type 0 where
   pub opening : (key iv : List ℕ) → RefusesExactly (opened key iv) (openingLines key iv) blank
   pub moving : (s : State) (distance : ℤ) → RefusesExactly (moved s distance) (movingLines s distance) s
+  pub applying :
+      (s : State) (source target : List ℕ)
+      → RefusesExactly (applied s source target) (applyingLines s source target) s × WritesNothing (applied s source target) target (appliedTarget s source target)
+  pub window :
+      (s : State) (buffer : List ℕ) (start count : ℕ)
+      → RefusesExactly (windowed s buffer start count) (windowLines s buffer start count) s
+      × WritesNothing (windowed s buffer start count) buffer (windowedBuffer s buffer start count)
+
+-- ---- 2. Keystream
+
+-- a call on a state
+pub data Call : Type 0 where
+  portion : (source target : List ℕ) → Call
+  window : (buffer : List ℕ) (start count : ℕ) → Call
+  move : (distance : ℤ) → Call
+
+abbrev pub answerTo : State → Call → Answer
+answerTo s (portion source target) = applied s source target
+answerTo s (window buffer start count) = windowed s buffer start count
+answerTo s (move distance) = moved s distance
+
+-- the bytes that a call counts
+abbrev pub countOf : Call → ℤ
+countOf (portion source target) = pos (length source)
+countOf (window buffer start count) = pos count
+countOf (move distance) = distance
+
+-- the state after a chain of calls, whether each was accepted where it stood, and the sum of their counts
+abbrev pub after : State → List Call → State
+after s [] = s
+after s (c ∷ calls) = after (answerTo s c .state) calls
+
+abbrev pub AllAccepted : State → List Call → Type 0
+AllAccepted s [] = Unit
+AllAccepted s (c ∷ calls) = (answerTo s c .number ≡ accepted) × AllAccepted (answerTo s c .state) calls
+
+abbrev pub total : List Call → ℤ
+total [] = pos 0
+total (c ∷ calls) = countOf c +ℤ total calls
+
+-- "From an opened state, after any chain of accepted portions and moves": the state s
+pub record Reached (key iv : List ℕ) (calls : List Call) (s : State) : Type 0 where
+  pub opening : Accepted key iv
+  pub accepts : AllAccepted (opened key iv .state) calls
+  pub state : s ≡ after (opened key iv .state) calls
+
+-- "writes each source byte xor the keystream byte of DSTU 8845 for that key, IV and position": n bytes from place a of a buffer on, the first
+-- of them for position p; every other byte is as the buffer held it
+pub record Ciphered (key iv : List ℕ) (p n a : ℕ) (source held left : List ℕ) : Type 0 where
+  pub inside : (i : ℕ) → i < n → at left (a + i) ≡ bitXor (at source i) (keystreamByte key iv (p + i))
+  pub before : (j : ℕ) → j < a → at left j ≡ at held j
+  pub beyond : (j : ℕ) → a + n ≤ j → at left j ≡ at held j
+  pub same-length : length left ≡ length held
+
+-- what holds at such a state: its position is the sum of the counts, its registers are those of S at word position / 8, and a further portion
+-- or window that is accepted writes the keystream from there on. Enciphering and deciphering alike: nothing is asked of the source.
+pub record KeystreamAt (key iv : List ℕ) (calls : List Call) (s : State) : Type 0 where
+  pub size : s .size ≡ sizeMark key
+  pub position : pos (s .position) ≡ total calls
+  pub registers : registersOf s ≡ registersAt key iv (s .position / 8)
+  pub portion :
+      (source target : List ℕ) → applied s source target .number ≡ accepted
+      → Ciphered key iv (s .position) (length source) 0 source target (appliedTarget s source target)
+  pub window :
+      (buffer : List ℕ) (start count : ℕ) → windowed s buffer start count .number ≡ accepted
+      → Ciphered key iv (s .position) count start (drop start buffer) buffer (windowedBuffer s buffer start count)
+
+-- for every accepted opening and every chain of accepted calls, of any kinds and number
+abbrev pub Keystream : Type 0
+Keystream = (key iv : List ℕ) (calls : List Call) (s : State) → Reached key iv calls s → KeystreamAt key iv calls s
 
 -- ---- 3. Stored states
 

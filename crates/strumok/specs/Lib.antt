@@ -2,6 +2,8 @@
 pub mod Refusals
 pub mod Opening
 pub mod Moving
+pub mod Applying
 pub mod Functions
 pub mod MovingLaws
+pub mod ApplyingLaws
 pub mod Demands

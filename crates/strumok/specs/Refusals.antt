@@ -3,7 +3,7 @@
 use mathlib.Core.Path.{_≡_}
 use mathlib.Core.Bool.{Bool, cond, not, _||_}
 use mathlib.Core.List.{List, [], _∷_}
-use Prim.Native.Nat.{ℕ}
+use Prim.Native.Nat.{ℕ, _+_}
 use lib.Dec.{eqb, ltb}
 use lib.IntN.{ℤ, pos}
 use lib.ListN.{length}
@@ -35,6 +35,14 @@ badSizeMark = 3
 abbrev pub positionAbove : ℕ
 positionAbove = 4
 
+-- | 5 | target shorter than source |
+abbrev pub targetShorter : ℕ
+targetShorter = 5
+
+-- | 6 | window start + count above the buffer length, as whole numbers |
+abbrev pub windowPastEnd : ℕ
+windowPastEnd = 6
+
 -- | 7 | new position would be above 16,777,216 |
 abbrev pub newPositionAbove : ℕ
 newPositionAbove = 7
@@ -60,6 +68,14 @@ sizeMarkTest s = record { number = badSizeMark; applies = not (eqb (s .size) 256
 abbrev pub positionTest : State → Test
 positionTest s = record { number = positionAbove; applies = ltb limit (s .position) }
 
+-- for a source of n bytes and a target of len
+abbrev pub targetTest : (n len : ℕ) → Test
+targetTest n len = record { number = targetShorter; applies = ltb len n }
+
+-- for a buffer of len bytes
+abbrev pub windowTest : (len start count : ℕ) → Test
+windowTest len start count = record { number = windowPastEnd; applies = ltb len (start + count) }
+
 -- a new position is a whole number, which may be negative
 abbrev pub newPositionAboveTest : ℤ → Test
 newPositionAboveTest to = record { number = newPositionAbove; applies = ltZ (pos limit) to }
@@ -83,3 +99,7 @@ WellFormed s = returned (stateTests s) ≡ accepted
 -- the answer of a call with these tests: the state that it makes where none applies, and else the one that a refusal gives back
 abbrev pub answer : List Test → (made back : State) → Answer
 answer tests made back = record { number = returned tests; state = cond (eqb (returned tests) accepted) made back }
+
+-- "No buffer is written": what a call with these tests leaves in a buffer, where none applies, and else what it held
+abbrev pub written : List Test → (made held : List ℕ) → List ℕ
+written tests made held = cond (eqb (returned tests) accepted) made held

@@ -1,11 +1,14 @@
-// The cipher's calls: opening a state from key and IV, and moving it.
+// The cipher's calls: opening a state from key and IV, moving it, and applying its keystream from a source to a target or over a window.
 ghost use mathlib.Core.Path.{_≡_};
+ghost use Prim.Native.Nat.{_+_, _≤_};
+ghost use lib.ListN.{length};
 ghost use Rattle.generator.specs.declared.Kind.the-variants.{Ordinary};
 ghost use Rattle.generator.specs.Registers.{registersOf, withRegisters, next, previous, walked};
 ghost use Rattle.loading.specs.Loading.{initialised};
-ghost use Rattle.strumok.specs.Refusals.{stateTests, returned};
+ghost use Rattle.strumok.specs.Refusals.{limit, stateTests, returned};
 ghost use Rattle.strumok.specs.Opening.{blank, openingTests, opened};
 ghost use Rattle.strumok.specs.Moving.{movedTo, moved};
+ghost use Rattle.strumok.specs.Applying.{withKeystream, applyingTests, applied, appliedTarget, windowTests, windowed, windowedBuffer};
 ghost use Rattle.strumok.specs.Functions.{spanOf};
 use columns::matrix_inverse_tables;
 use columns::substitution_tables;
@@ -15,6 +18,7 @@ use generator::Kind;
 use generator::State;
 use generator::backward;
 use generator::forward;
+use keystream::apply_keystream;
 use loading::load_cells;
 use substitution::pi_inverse_tables;
 
@@ -209,6 +213,100 @@ pub fn move_by(s: State, distance: i64) -> Answer
         };
     }
     let t = move_to(s, p + n);
+    Answer {
+        number: refusals::ACCEPTED,
+        state: t,
+    }
+}
+
+// ---- applying
+
+// The keystream over the whole buffer, in place, and the state moved on by its length.
+fn advance(s: State, buffer: &mut [u8]) -> State
+    requires { ⌜ s .position + length (now buffer) ≤ limit ⌝ }
+    ensures { λ r. ⌜ r ≡ movedTo s (s .position + length (now (buffer .entry))) ⌝ }
+    ensures { λ _. ⌜ now (buffer .exit) ≡ withKeystream s (now (buffer .entry)) ⌝ }
+{
+    let n = buffer.len() as u64;
+    let mut t = apply_keystream(s, buffer);
+    t.position = s.position + n;
+    t
+}
+
+// 3, 4, 5 or 7 where a source of n bytes is refused for a target of len, else 0.
+fn applying_number(s: State, n: usize, len: usize) -> u64
+    ensures { λ r. ⌜ r ≡ returned (applyingTests s n len) ⌝ }
+{
+    let number = state_number(s);
+    if number != refusals::ACCEPTED {
+        return number;
+    }
+    if n > len {
+        return refusals::TARGET_SHORTER;
+    }
+    if n as u64 > refusals::LIMIT - s.position {
+        return refusals::NEW_POSITION_ABOVE;
+    }
+    refusals::ACCEPTED
+}
+
+// The source with the keystream applied, to the front of the target; or a refusal, with the state as it came and nothing written.
+pub fn apply(s: State, source: &[u8], target: &mut [u8]) -> Answer
+    ensures { λ r. ⌜ r ≡ applied s (now (source .entry)) (now (target .entry)) ⌝ }
+    ensures { λ _. ⌜ now (target .exit) ≡ appliedTarget s (now (source .entry)) (now (target .entry)) ⌝ }
+{
+    let n = source.len();
+    let number = applying_number(s, n, target.len());
+    if number != refusals::ACCEPTED {
+        return Answer {
+            number: number,
+            state: s,
+        };
+    }
+    bytes::copy(source, target);
+    let t = advance(s, &mut target[..n]);
+    Answer {
+        number: refusals::ACCEPTED,
+        state: t,
+    }
+}
+
+// ---- the window
+
+// 3, 4, 6 or 7 where a window of a buffer of len bytes is refused, else 0. No sum of start and count is made that could overflow.
+fn window_number(s: State, len: usize, start: usize, count: usize) -> u64
+    ensures { λ r. ⌜ r ≡ returned (windowTests s len start count) ⌝ }
+{
+    let number = state_number(s);
+    if number != refusals::ACCEPTED {
+        return number;
+    }
+    if start > len {
+        return refusals::WINDOW_PAST_END;
+    }
+    if count > len - start {
+        return refusals::WINDOW_PAST_END;
+    }
+    if count as u64 > refusals::LIMIT - s.position {
+        return refusals::NEW_POSITION_ABOVE;
+    }
+    refusals::ACCEPTED
+}
+
+// The keystream over count bytes of the buffer from start on, the others kept; or a refusal, with the state as it came and nothing written.
+pub fn window(s: State, buffer: &mut [u8], start: usize, count: usize) -> Answer
+    ensures { λ r. ⌜ r ≡ windowed s (now (buffer .entry)) start count ⌝ }
+    ensures { λ _. ⌜ now (buffer .exit) ≡ windowedBuffer s (now (buffer .entry)) start count ⌝ }
+{
+    let number = window_number(s, buffer.len(), start, count);
+    if number != refusals::ACCEPTED {
+        return Answer {
+            number: number,
+            state: s,
+        };
+    }
+    let end = start + count;
+    let t = advance(s, &mut buffer[start..end]);
     Answer {
         number: refusals::ACCEPTED,
         state: t,

@@ -18,6 +18,12 @@ pub const SIZE_MARK: u64 = 3;
 // The position is above the last one.
 pub const POSITION_ABOVE: u64 = 4;
 
+// The target is shorter than the source.
+pub const TARGET_SHORTER: u64 = 5;
+
+// The window ends past the end of the buffer.
+pub const WINDOW_PAST_END: u64 = 6;
+
 // The new position would be above the last one.
 pub const NEW_POSITION_ABOVE: u64 = 7;
 

@@ -1,0 +1,92 @@
+-- A buffer worked over in parts, lent one after the other.
+-- Assumes nothing.
+use mathlib.Core.Path.{_≡_, refl, sym, ap, _∙_}
+use mathlib.Core.List.{List}
+use Prim.Native.Nat.{ℕ, _+_, _-_, _/_, _%_, _<_, _≤_}
+use native.Mathlib.Nat.{add-assoc}
+use native.Mathlib.Omega.{arith}
+use borrow.Rule.Slice.PartMut.{putMid}
+use lib.ListN.{length, take, drop, length-take, length-drop}
+use Rattle.generator.specs.declared.State.{State}
+use Rattle.generator.specs.declared.Stepped.{Stepped}
+use Rattle.generator.specs.Registers.{Registers, registersOf, keystreamWord, iterate, walked}
+use Rattle.keystream.specs.Keystream.{byteAt, streamByte, masked}
+use Rattle.keystream.specs.Functions.{Applied}
+use Rattle.keystream.proofs.Masked.{partly, partly-all, partly-length, partly-rest, partly-put, masked-ext}
+use Rattle.keystream.proofs.Stream.{walked-walked, stream-from, masked-within}
+
+module _ (f : Registers → Registers) (p : ℕ) (s : State) (b : List ℕ) where
+  -- the first i bytes of the buffer that held b are done
+  pub record Done (i : ℕ) (t : State) (buffer : List ℕ) : Type 0 where
+    pub within : i ≤ length b
+    pub state : t ≡ walked f ((p + i) / 8) s
+    pub bytes : buffer ≡ partly (streamByte f (registersOf s)) p b i
+
+  pub done-none : p < 8 → Done 0 s b
+  done-none h = let e : 0 ≡ (p + 0) / 8 = omega arith in record { within = omega arith; state = ap (λ (n : ℕ). walked f n s) e; bytes = refl }
+
+  module _ {i : ℕ} {t : State} {buffer : List ℕ} (d : Done i t buffer) where
+    pub done-length : length buffer ≡ length b
+    done-length = ap length (d .bytes) ∙ partly-length (streamByte f (registersOf s)) p b i (d .within)
+
+    pub done-all : length buffer ≤ i → Applied f p s b t buffer
+    done-all h =
+        let e : i ≡ length b = omega (arith, d .within, done-length) in
+        record { state = d .state ∙ ap (λ (n : ℕ). walked f ((p + n) / 8) s) e; bytes = d .bytes ∙ partly-all (streamByte f (registersOf s)) p b i e }
+
+    -- the part from i up to e
+    module _ (e : ℕ) (ie : i ≤ e) (el : e ≤ length b) where
+      pub part-length : length (take (e - i) (drop i buffer)) ≡ e - i
+      part-length = simp (length-take, length-drop) (omega (arith, done-length))
+
+      pub done-part : {q : ℕ} {u : State} {ys : List ℕ} → q ≡ (p + i) % 8 → Applied f q t (take (e - i) (drop i buffer)) u ys → Done e u (putMid i (e - i) buffer ys)
+      done-part {q} {u} {ys} eq a =
+          let g = streamByte f (registersOf s) in
+          let sum : i + (e - i) ≡ e = omega arith in
+          let steps : (p + i) / 8 + (q + (e - i)) / 8 ≡ (p + e) / 8 = omega arith in
+          let rest : take (e - i) (drop i buffer) ≡ take (e - i) (drop i b) = ap (λ (l : List ℕ). take (e - i) (drop i l)) (d .bytes) ∙ ap (take (e - i)) (partly-rest g p b i (d .within)) in
+          let agree : (j : ℕ) → streamByte f (registersOf t) (q + j) ≡ g (p + i + j) =
+          λ j. rw (d .state, eq) (stream-from f (registersOf s) (p + i) j) in
+          let ey : ys ≡ masked g (p + i) (take (e - i) (drop i b)) =
+          a .bytes ∙ ap (masked (streamByte f (registersOf t)) q) rest ∙ masked-ext (streamByte f (registersOf t)) g q (p + i) (take (e - i) (drop i b)) (λ j h. agree j) in
+          record {
+            within = el;
+            state = a .state ∙ rw (part-length, d .state) (walked-walked f ((p + i) / 8) ((q + (e - i)) / 8) s ∙ ap (λ (n : ℕ). walked f n s) steps);
+            bytes = rw (d .bytes) (partly-put g p b i (d .within) (e - i) (omega arith) ey ∙ ap (partly g p b) sum);
+          }
+
+-- more words, from a word's start on
+pub done-words : (f : Registers → Registers) (s : State) (b : List ℕ) {i : ℕ} {t : State} {buffer : List ℕ} → Done f 0 s b i t buffer → (e : ℕ) → i % 8 ≡ 0 → i ≤ e → e ≤ length b
+    → {u : State} {ys : List ℕ} → Applied f 0 t (take (e - i) (drop i buffer)) u ys → Done f 0 s b e u (putMid i (e - i) buffer ys)
+done-words f s b d e h ie el a = done-part f 0 s b d e ie el (omega arith) a
+
+-- a buffer of n bytes in two parts: the first k, then the others from where those left the state
+module _ (f : Registers → Registers) (p : ℕ) (s : State) (b : List ℕ) (k n : ℕ) (below : p < 8) (long : length b ≡ n) (h : k ≤ n) {t : State} {ys : List ℕ}
+    (first : Applied f p s (take (k - 0) (drop 0 b)) t ys) where
+  abbrev middle : List ℕ
+  middle = putMid 0 (k - 0) b ys
+
+  half-done : Done f p s b k t middle
+  half-done = done-part f p s b (done-none f p s b below) k (omega arith) (omega arith) (omega arith) first
+
+  pub rest-length : length (take (n - k) (drop k middle)) ≡ n - k
+  rest-length = part-length f p s b half-done n h (omega arith)
+
+  pub both-parts : {q : ℕ} {u : State} {zs : List ℕ} → q ≡ (p + k) % 8 → Applied f q t (take (n - k) (drop k middle)) u zs → Applied f p s b u (putMid k (n - k) middle zs)
+  both-parts e second = let d = done-part f p s b half-done n h (omega arith) e second in done-all f p s b d (omega (arith, done-length f p s b d))
+
+-- ---- within one word
+
+-- a step's word, over bytes of it: up to the word's end the state is the one after the step, before that the one before it
+module _ (f : Registers → Registers) (s : State) (p : ℕ) (xs : List ℕ) {k : Stepped} {ys : List ℕ} (within : p + length xs ≤ 8)
+    (ek : k ≡ record { state = walked f 1 s; word = keystreamWord (registersOf s) }) (ey : ys ≡ masked (byteAt (k .word)) p xs) where
+  by-step : ys ≡ masked (streamByte f (registersOf s)) p xs
+  by-step = ey ∙ ap (λ (x : Stepped). masked (byteAt (x .word)) p xs) ek ∙ masked-within f (registersOf s) p xs within
+
+  pub stepped-over : p + length xs ≡ 8 → Applied f p s xs (k .state) ys
+  stepped-over h =
+      let one : 1 ≡ (p + length xs) / 8 = omega arith in
+      record { state = ap (λ (x : Stepped). x .state) ek ∙ ap (λ (n : ℕ). walked f n s) one; bytes = by-step }
+
+  pub left-over : p + length xs < 8 → Applied f p s xs s ys
+  left-over h = let none : 0 ≡ (p + length xs) / 8 = omega arith in record { state = ap (λ (n : ℕ). walked f n s) none; bytes = by-step }

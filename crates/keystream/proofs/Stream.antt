@@ -1,0 +1,42 @@
+-- The keystream from a later word on.
+-- Assumes nothing.
+use mathlib.Core.Path.{_≡_, refl, sym, ap, ap₂, _∙_}
+use mathlib.Core.List.{List}
+use Prim.Native.Nat.{ℕ, _+_, _/_, _%_, _<_, _≤_}
+use native.Mathlib.Omega.{arith}
+use lib.ListN.{length}
+use Rattle.galois.specs.Alpha.{alphaTable, alphaInverseTable}
+use Rattle.substitution.specs.Substitution.{substitutionTables}
+use Rattle.generator.specs.declared.State.{State}
+use Rattle.generator.specs.declared.Kind.{Kind}
+use Rattle.generator.specs.declared.Kind.the-variants.{Ordinary}
+use Rattle.generator.specs.Registers.{Registers, registersOf, stateOf, next, keystreamWord, iterate, walked}
+use Rattle.generator.proofs.GeneratorLaws.{generator-laws}
+use Rattle.generator.proofs.Iterate.{iterate-add}
+use Rattle.keystream.specs.Keystream.{byteAt, streamByte, masked}
+use Rattle.keystream.specs.Functions.{stepOver}
+use Rattle.keystream.proofs.Masked.{masked-ext}
+
+pub byte-at-mod : (z p q : ℕ) → p % 8 ≡ q % 8 → byteAt z p ≡ byteAt z q
+unfolding byteAt
+byte-at-mod z p q e = rw e refl
+
+pub walked-walked : (f : Registers → Registers) (m n : ℕ) (s : State) → walked f n (walked f m s) ≡ walked f (m + n) s
+walked-walked f m n s = ap (λ (r : Registers). stateOf r (s .size) (s .position)) (sym (iterate-add f m n (registersOf s)))
+
+-- byte a + j, counted from the word of byte a on
+pub stream-from : (f : Registers → Registers) (r : Registers) (a j : ℕ) → streamByte f (iterate f (a / 8) r) (a % 8 + j) ≡ streamByte f r (a + j)
+stream-from f r a j =
+    let e : a / 8 + (a % 8 + j) / 8 ≡ (a + j) / 8 = omega arith in
+    ap (λ (t : Registers). byteAt (keystreamWord t) (a % 8 + j)) (sym (iterate-add f (a / 8) ((a % 8 + j) / 8) r) ∙ ap (λ (n : ℕ). iterate f n r) e)
+    ∙ byte-at-mod (keystreamWord (iterate f ((a + j) / 8) r)) (a % 8 + j) (a + j) (omega arith)
+
+-- within the word of r, up to its end
+pub masked-within : (f : Registers → Registers) (r : Registers) (p : ℕ) (xs : List ℕ) → p + length xs ≤ 8 → masked (byteAt (keystreamWord r)) p xs ≡ masked (streamByte f r) p xs
+masked-within f r p xs h =
+    masked-ext (byteAt (keystreamWord r)) (streamByte f r) p p xs
+    (λ j hj. let e : 0 ≡ (p + j) / 8 = omega arith in ap (λ (n : ℕ). byteAt (keystreamWord (iterate f n r)) (p + j)) e)
+
+-- a step by the tables of T and α
+pub step-by-tables : {tables : List (List ℕ)} {alpha inverse : List ℕ} → tables ≡ substitutionTables → alpha ≡ alphaTable → inverse ≡ alphaInverseTable → stepOver tables alpha inverse ≡ next Ordinary
+step-by-tables et ea ei = rw (et, ea, ei) (ap (λ (f : Kind → Registers → Registers). f Ordinary) (generator-laws .next-by-tables))

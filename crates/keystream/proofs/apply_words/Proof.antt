@@ -1,0 +1,45 @@
+-- `keystream::apply_words` meets its contract: after each turn, 8 bytes more are done.
+-- Assumes nothing.
+use mathlib.Core.Path.{_≡_, refl, _∙_}
+use Prim.Native.Nat.{ℕ, _+_, _-_, _%_, _≤_}
+use native.Mathlib.Omega.{arith}
+use lib.ListN.{length}
+use Rattle.keystream.specs.Functions.{stepOver}
+use Rattle.keystream.proofs.Parts.{Done, done-none, done-length, done-all, part-length, done-part}
+use Rattle.keystream.proofs.apply_words.Statement.{statement}
+use Rattle.keystream.proofs.apply_words.Tie as tie
+
+abbrev Inv-loop : tie.InvT-loop
+Inv-loop tables alpha inverse buffer₀ t₀ i₀ buffer t i = Done (stepOver tables alpha inverse) 0 t₀ buffer₀ i t buffer × (i % 8 ≡ 0)
+
+abbrev μ-loop : tie.MeasureT-loop
+μ-loop tables alpha inverse buffer₀ t₀ i₀ buffer t i = length buffer₀ - i
+
+-- there is room for another
+room : (c : tie.In-loop Inv-loop μ-loop) → c .before .loop .i + 8 ≤ length (c .before .before .before .args .buffer .now)
+room c = omega (arith, c .before .loop .inv .1, done-length _ _ _ _ (c .before .loop .inv .0), c .before .before .before .pre, c)
+
+loop-again : tie.Need-loop-again Inv-loop μ-loop
+loop-again c =
+    let k = c .before .before in
+    let h = k .before .before in
+    let l = h .before .loop in
+    let a = h .before .before .before .args in
+    (done-part _ 0 (a .s) (a .buffer .now) (l .inv .0) (l .i + 8) (omega arith) (room h) (omega (arith, l .inv .1)) (k .apply-one .ensures), omega (arith, l .inv .1))
+
+pub apply-words-spec : {M : Type 1} → statement M
+apply-words-spec =
+    tie.close
+    (tie.spec
+    Inv-loop
+    μ-loop
+    (λ c. (done-none _ _ _ _ (omega arith), omega arith))
+    (λ c. omega arith)
+    (λ c. omega arith)
+    (λ c. omega arith)
+    (λ c. omega (arith, room c, done-length _ _ _ _ (c .before .loop .inv .0)))
+    (λ c κs. part-length _ 0 _ _ (c .before .before .loop .inv .0) (c .before .before .loop .i + 8) (omega arith) (room (c .before)) ∙ omega arith)
+    (λ c. omega (arith, room (c .before .before .before .before)))
+    loop-again
+    (λ c. done-length _ _ _ _ (c .before .loop .inv .0))
+    (λ c. done-all _ _ _ _ (c .before .loop .inv .0) (omega arith)))

@@ -1,0 +1,3 @@
+-- The definitions that the contracts of keystream cite.
+pub mod Keystream
+pub mod Functions

@@ -1,0 +1,216 @@
+-- The laws of portions and windows that specs/ApplyingLaws.antt states.
+-- Assumes nothing.
+use mathlib.Core.Path.{_≡_, refl, sym, ap, ap₂, _∙_}
+use mathlib.Core.Bool.{Bool, true, false, cond}
+use mathlib.Core.List.{List, [], _∷_, _++_, append-assoc, append-nil}
+use Prim.Native.Nat.{ℕ, _+_, _-_, _/_, _≤_}
+use native.Mathlib.Nat.{add-zero}
+use native.Mathlib.Omega.{arith}
+use borrow.Author.Tests.{le-ltb, ltb-false}
+use lib.Dec.{eqb}
+use lib.IntN.{pos}
+use lib.ListN.{length, take, drop, length-append, length-take, length-drop, take-append-drop}
+use lib.Seq.{take-at, drop-at, drop-drop, drop-length}
+use Rattle.generator.specs.declared.State.{State}
+use Rattle.generator.specs.Registers.{Registers, registersOf, stateOf, keystreamWord}
+use Rattle.keystream.specs.Keystream.{byteAt, masked}
+use Rattle.keystream.proofs.Masked.{masked-length, masked-append, masked-ext, masked-drop, masked-masked}
+use Rattle.strumok.specs.declared.Answer.{Answer}
+use Rattle.strumok.specs.Refusals.{Test, limit, accepted, targetTest, windowTest, newPositionAboveTest, stateTests, returned, WellFormed, answer, written}
+use Rattle.strumok.specs.Opening.{Leads}
+use Rattle.strumok.specs.Moving.{movedTo, newPosition, moved}
+use Rattle.strumok.specs.Applying.{keystreamByte, keystreamByteOf, withKeystream, applyingTests, applied, appliedTarget, windowTests, windowed, windowedBuffer}
+use Rattle.strumok.specs.ApplyingLaws.{TwoPortions, Restored, ApplyingLaws}
+use Rattle.strumok.proofs.Tests.{answer-accepted, written-accepted}
+use Rattle.strumok.proofs.Moves.{position-le, moves-to}
+use Rattle.strumok.proofs.Walks.{walk-on}
+use Rattle.strumok.proofs.MovingLaws.{moved-here, moved-well-formed, position-moved, moved-to-leads}
+use Rattle.strumok.proofs.Portions.{Advances, advances, accepts}
+
+-- ---- the keystream of a state
+
+keystream-of-key : (key iv : List ℕ) (s : State) → Leads key iv s → (p : ℕ) → keystreamByteOf s p ≡ keystreamByte key iv p
+unfolding keystreamByteOf keystreamByte movedTo
+keystream-of-key key iv s l p = ap (λ (r : Registers). byteAt (keystreamWord r) p) (moved-to-leads key iv s p l .registers)
+
+-- on, and further on
+module _ (s : State) (q r : ℕ) (h : s .position ≤ q) (k : q ≤ r) where
+  moved-on : movedTo (movedTo s q) r ≡ movedTo s r
+  unfolding movedTo
+  moved-on = ap (λ (x : Registers). stateOf x (s .size) r) (walk-on (s .position / 8) (q / 8) (r / 8) (registersOf s) (omega arith) (omega arith))
+
+  keystream-on : keystreamByteOf (movedTo s q) r ≡ keystreamByteOf s r
+  unfolding keystreamByteOf
+  keystream-on = ap (λ (x : State). byteAt (keystreamWord (registersOf x)) r) moved-on
+
+with-keystream-on : (s : State) (n : ℕ) (xs : List ℕ) → withKeystream (movedTo s (s .position + n)) xs ≡ masked (keystreamByteOf s) (s .position + n) xs
+with-keystream-on s n xs =
+    let q = s .position + n in
+    ap (λ (p : ℕ). masked (keystreamByteOf (movedTo s q)) p xs) (position-moved s q)
+    ∙ masked-ext (keystreamByteOf (movedTo s q)) (keystreamByteOf s) q q xs (λ j h. keystream-on s q (q + j) (omega arith) (omega arith))
+
+-- ---- accepted portions
+
+-- a portion is accepted exactly when this holds
+abbrev Portion : State → (n len : ℕ) → Type 0
+Portion s n len = Advances s (targetTest n len) n
+
+module _ (s : State) (xs target : List ℕ) where
+  pub accepted-portion : applied s xs target .number ≡ accepted → Portion s (length xs) (length target)
+  accepted-portion e = advances s (targetTest (length xs) (length target)) (length xs) tt e
+
+  module _ (a : Portion s (length xs) (length target)) where
+    pub portion-answer : record { number = accepted; state = movedTo s (s .position + length xs) } ≡ applied s xs target
+    portion-answer = answer-accepted (applyingTests s (length xs) (length target)) _ s (accepts s _ (length xs) a) refl
+
+    pub portion-bytes : withKeystream s xs ++ drop (length xs) target ≡ appliedTarget s xs target
+    portion-bytes = written-accepted (applyingTests s (length xs) (length target)) _ target (accepts s _ (length xs) a) refl
+
+    pub portion-long : length xs ≤ length target
+    portion-long = ltb-false (length target) (length xs) (a .fits)
+
+    portion-front : take (length xs) (appliedTarget s xs target) ≡ withKeystream s xs
+    portion-front = ap (take (length xs)) (sym portion-bytes) ∙ take-at (withKeystream s xs) (drop (length xs) target) (length xs) (masked-length _ (s .position) xs)
+
+    portion-back : drop (length xs) (appliedTarget s xs target) ≡ drop (length xs) target
+    portion-back = ap (drop (length xs)) (sym portion-bytes) ∙ drop-at (withKeystream s xs) (drop (length xs) target) (length xs) (masked-length _ (s .position) xs)
+
+-- moved on within what is accepted, a state is ready for the rest
+later-portion : (s : State) (k m len : ℕ) → WellFormed s → s .position + k + m ≤ limit → m ≤ len → Portion (movedTo s (s .position + k)) m len
+later-portion s k m len ok room fits =
+    record {
+      well-formed = moved-well-formed s (s .position + k) ok (omega arith);
+      fits = le-ltb len m fits;
+      room = rw (position-moved s (s .position + k)) room;
+    }
+
+-- ---- portions compose
+
+module _ (s : State) (xs ys target : List ℕ) where
+  abbrev n : ℕ
+  n = length xs
+
+  abbrev m : ℕ
+  m = length ys
+
+  abbrev rest : List ℕ
+  rest = drop n target
+
+  both-length : length (xs ++ ys) ≡ n + m
+  both-length = length-append xs ys
+
+  rest-length : length rest ≡ length target - n
+  rest-length = length-drop n target
+
+  portions-compose : applied s (xs ++ ys) target .number ≡ accepted → TwoPortions s xs ys target
+  portions-compose e =
+      let a = accepted-portion s (xs ++ ys) target e in
+      let long = portion-long s (xs ++ ys) target a in
+      let one : Portion s n (length target) = record { well-formed = a .well-formed; fits = le-ltb (length target) n (omega (arith, both-length, long)); room = omega (arith, a .room, both-length) } in
+      let t = movedTo s (s .position + n) in
+      let two : Portion t m (length rest) = later-portion s n m (length rest) (a .well-formed) (omega (arith, a .room, both-length)) (omega (arith, both-length, long, rest-length)) in
+      let state : applied s xs target .state ≡ t = ap (λ (x : Answer). x .state) (sym (portion-answer s xs target one)) in
+      let end : movedTo t (t .position + m) ≡ movedTo s (s .position + length (xs ++ ys)) =
+      ap (λ (p : ℕ). movedTo t (p + m)) (position-moved s (s .position + n)) ∙ ap (movedTo t) (omega (arith, both-length)) ∙ moved-on s (s .position + n) (s .position + length (xs ++ ys)) (omega arith) (omega (arith, both-length)) in
+      record {
+        first = ap (λ (x : Answer). x .number) (sym (portion-answer s xs target one));
+        second =
+            ap₂ (λ (x : State) (l : List ℕ). applied x ys l) state (portion-back s xs target one) ∙ sym (portion-answer t ys rest two)
+            ∙ ap (λ (x : State). record { number = accepted; state = x }) end ∙ portion-answer s (xs ++ ys) target a;
+        bytes =
+            sym (portion-bytes s (xs ++ ys) target a)
+            ∙ ap₂ _++_ (masked-append (keystreamByteOf s) (s .position) xs ys) (ap (λ (k : ℕ). drop k target) both-length ∙ sym (drop-drop m n target))
+            ∙ append-assoc (withKeystream s xs) (masked (keystreamByteOf s) (s .position + n) ys) (drop m rest)
+            ∙ ap₂ _++_ (sym (portion-front s xs target one))
+            (ap (λ (l : List ℕ). l ++ drop m rest) (sym (with-keystream-on s n ys)) ∙ portion-bytes t ys rest two
+            ∙ sym (ap₂ (λ (x : State) (l : List ℕ). appliedTarget x ys l) state (portion-back s xs target one)));
+      }
+
+  portions-join : applied s xs target .number ≡ accepted → applied (applied s xs target .state) ys (drop n (appliedTarget s xs target)) .number ≡ accepted → applied s (xs ++ ys) target .number ≡ accepted
+  portions-join e e′ =
+      let one = accepted-portion s xs target e in
+      let t = movedTo s (s .position + n) in
+      let state : applied s xs target .state ≡ t = ap (λ (x : Answer). x .state) (sym (portion-answer s xs target one)) in
+      let two = accepted-portion t ys rest (sym (ap₂ (λ (x : State) (l : List ℕ). applied x ys l .number) state (portion-back s xs target one)) ∙ e′) in
+      accepts s _ (length (xs ++ ys))
+      (record {
+        well-formed = one .well-formed;
+        fits = le-ltb (length target) (length (xs ++ ys)) (omega (arith, both-length, rest-length, portion-long s xs target one, portion-long t ys rest two));
+        room = omega (arith, both-length, two .room, position-moved s (s .position + n));
+      })
+
+-- ---- twice restores
+
+twice-restores : (s : State) (xs target : List ℕ) (k : ℕ) (other : List ℕ) → applied s xs target .number ≡ accepted → k ≤ length xs → length (drop k xs) ≤ length other → Restored s xs target k other
+twice-restores s xs target k other e kn fits =
+    let a = accepted-portion s xs target e in
+    let g = keystreamByteOf s in
+    let t = movedTo s (s .position + k) in
+    let left : length (drop k xs) ≡ length xs - k = length-drop k xs in
+    let there : record { number = accepted; state = t } ≡ moved s (pos k) = moves-to s (pos k) (a .well-formed) refl (omega (arith, a .room)) refl in
+    let state : moved s (pos k) .state ≡ t = ap (λ (x : Answer). x .state) (sym there) in
+    let stretch : drop k (take (length xs) (appliedTarget s xs target)) ≡ masked g (s .position + k) (drop k xs) =
+    ap (drop k) (portion-front s xs target a) ∙ masked-drop g (s .position) k xs in
+    let zs = masked g (s .position + k) (drop k xs) in
+    let long : length zs ≡ length (drop k xs) = masked-length g (s .position + k) (drop k xs) in
+    let again : Portion t (length zs) (length other) = later-portion s k (length zs) (length other) (a .well-formed) (omega (arith, a .room, left, long)) (omega (arith, long, fits)) in
+    record {
+      move = ap (λ (x : Answer). x .number) (sym there);
+      portion = ap₂ (λ (x : State) (l : List ℕ). applied x l other .number) state stretch ∙ ap (λ (x : Answer). x .number) (sym (portion-answer t zs other again));
+      bytes =
+          ap₂ (λ (x : State) (l : List ℕ). appliedTarget x l other) state stretch ∙ sym (portion-bytes t zs other again)
+          ∙ ap₂ _++_ (with-keystream-on s k zs ∙ masked-masked g (s .position + k) (drop k xs)) (ap (λ (i : ℕ). drop i other) long);
+    }
+
+-- ---- a window is a portion
+
+-- a test that does not apply changes no number
+untested : (s : State) (fit fit′ : Test) (n : ℕ) → fit .applies ≡ false → fit′ .applies ≡ false
+    → returned (stateTests s ++ (fit ∷ newPositionAboveTest (newPosition s (pos n)) ∷ [])) ≡ returned (stateTests s ++ (fit′ ∷ newPositionAboveTest (newPosition s (pos n)) ∷ []))
+untested s fit fit′ n e e′ = rw (e, e′)
+
+module _ (s : State) (buffer : List ℕ) (start count : ℕ) (h : start + count ≤ length buffer) where
+  abbrev part : List ℕ
+  part = take count (drop start buffer)
+
+  part-length : length part ≡ count
+  part-length = simp (length-take, length-drop) (omega arith)
+
+  same-number : returned (windowTests s (length buffer) start count) ≡ returned (applyingTests s (length part) (length part))
+  same-number =
+      untested s (windowTest (length buffer) start count) (targetTest count count) count (le-ltb (length buffer) (start + count) h) (le-ltb count count (omega arith))
+      ∙ ap (λ (k : ℕ). returned (applyingTests s k k)) (sym part-length)
+
+  window-answer : windowed s buffer start count ≡ applied s part part
+  window-answer = ap₂ (λ (k i : ℕ). record { number = k; state = cond (eqb k accepted) (movedTo s (s .position + i)) s }) same-number (sym part-length)
+
+  window-buffer : windowedBuffer s buffer start count ≡ take start buffer ++ (appliedTarget s part part ++ drop (start + count) buffer)
+  window-buffer = ap (λ (k : ℕ). cond (eqb k accepted) made buffer) same-number ∙ by (eqb (returned (applyingTests s (length part) (length part))) accepted)
+    where
+      made : List ℕ
+      made = take start buffer ++ (withKeystream s part ++ drop (start + count) buffer)
+
+      by : (b : Bool) → cond b made buffer ≡ take start buffer ++ (cond b (withKeystream s part ++ drop (length part) part) part ++ drop (start + count) buffer)
+      by true = sym (ap (λ (l : List ℕ). take start buffer ++ ((withKeystream s part ++ l) ++ drop (start + count) buffer)) (drop-length part) ∙ ap (λ (l : List ℕ). take start buffer ++ (l ++ drop (start + count) buffer)) (append-nil (withKeystream s part)))
+      by false = sym (ap (λ (l : List ℕ). take start buffer ++ (part ++ l)) (sym (drop-drop count start buffer)) ∙ ap (λ (l : List ℕ). take start buffer ++ l) (take-append-drop count (drop start buffer)) ∙ take-append-drop start buffer)
+
+-- ---- no bytes
+
+no-bytes : (s : State) (target : List ℕ) → WellFormed s → (applied s [] target ≡ record { number = accepted; state = s }) × (appliedTarget s [] target ≡ target)
+no-bytes s target ok =
+    let none : Portion s 0 (length target) =
+    record { well-formed = ok; fits = le-ltb (length target) 0 (omega arith); room = omega (arith, position-le s ok) } in (
+      sym (portion-answer s [] target none) ∙ ap (λ (x : State). record { number = accepted; state = x }) (ap (movedTo s) (add-zero (s .position)) ∙ moved-here s),
+      sym (portion-bytes s [] target none),
+    )
+
+pub applying-laws : ApplyingLaws
+applying-laws =
+    record {
+      keystream-of-key = keystream-of-key;
+      portions-compose = portions-compose;
+      portions-join = portions-join;
+      twice-restores = twice-restores;
+      window-is-portion = λ s buffer start count h. (window-answer s buffer start count h, window-buffer s buffer start count h);
+      no-bytes = no-bytes;
+    }

@@ -1,0 +1,56 @@
+-- Document 01, "Positions, windows, moves": the keystream from a source to a target, and over a window of one buffer.
+-- Assumes nothing.
+use mathlib.Core.List.{List, [], _∷_, _++_}
+use Prim.Native.Nat.{ℕ, _+_, _/_}
+use lib.IntN.{pos}
+use lib.ListN.{length, take, drop}
+use Rattle.generator.specs.declared.State.{State}
+use Rattle.generator.specs.Registers.{registersOf, keystreamWord}
+use Rattle.keystream.specs.Keystream.{byteAt, masked}
+use Rattle.loading.specs.Loading.{registersAt}
+use Rattle.strumok.specs.declared.Answer.{Answer}
+use Rattle.strumok.specs.Refusals.{Test, stateTests, targetTest, windowTest, newPositionAboveTest, answer, written}
+use Rattle.strumok.specs.Moving.{movedTo, newPosition}
+
+-- "A state at position p holds the registers of S at word floor(p/8). Keystream byte p is byte (p mod 8) of that word's Z": of a key and an IV
+unfoldable pub keystreamByte : (key iv : List ℕ) → (p : ℕ) → ℕ
+keystreamByte key iv p = byteAt (keystreamWord (registersAt key iv (p / 8))) p
+
+-- the same of a state: "A well-formed state that no opening made is worked from its registers as they are."
+unfoldable pub keystreamByteOf : State → (p : ℕ) → ℕ
+keystreamByteOf s p = byteAt (keystreamWord (registersOf (movedTo s p))) p
+
+-- the bytes xs, each xor its keystream byte, from the position of the state on
+abbrev pub withKeystream : State → List ℕ → List ℕ
+withKeystream s xs = masked (keystreamByteOf s) (s .position) xs
+
+-- ---- from a source to a target
+
+-- "applying 3, 4, 5, 7": for a source of n bytes and a target of len
+abbrev pub applyingTests : State → (n len : ℕ) → List Test
+applyingTests s n len = stateTests s ++ (targetTest n len ∷ newPositionAboveTest (newPosition s (pos n)) ∷ [])
+
+-- "Applying a source of n bytes .. moves the position on by n": the answer
+abbrev pub applied : State → (source target : List ℕ) → Answer
+applied s source target = answer (applyingTests s (length source) (length target)) (movedTo s (s .position + length source)) s
+
+-- "Applying a source of n bytes writes the first n bytes of the target ..; later target bytes keep their values": the target
+abbrev pub appliedTarget : State → (source target : List ℕ) → List ℕ
+appliedTarget s source target =
+    written (applyingTests s (length source) (length target)) (withKeystream s source ++ drop (length source) target) target
+
+-- ---- over a window of one buffer
+
+-- "the window 3, 4, 6, 7": for a buffer of len bytes
+abbrev pub windowTests : State → (len start count : ℕ) → List Test
+windowTests s len start count = stateTests s ++ (windowTest len start count ∷ newPositionAboveTest (newPosition s (pos count)) ∷ [])
+
+-- "A window that begins anywhere inside the lent buffer may be worked over, given its start and its count": the answer
+abbrev pub windowed : State → (buffer : List ℕ) (start count : ℕ) → Answer
+windowed s buffer start count = answer (windowTests s (length buffer) start count) (movedTo s (s .position + count)) s
+
+-- "the bytes outside it keep their values": the buffer
+abbrev pub windowedBuffer : State → (buffer : List ℕ) (start count : ℕ) → List ℕ
+windowedBuffer s buffer start count =
+    written (windowTests s (length buffer) start count)
+    (take start buffer ++ (withKeystream s (take count (drop start buffer)) ++ drop (start + count) buffer)) buffer
