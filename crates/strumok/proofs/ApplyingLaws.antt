@@ -19,7 +19,7 @@ use Rattle.strumok.specs.declared.Answer.{Answer}
 use Rattle.strumok.specs.Refusals.{Test, limit, accepted, targetTest, windowTest, newPositionAboveTest, stateTests, returned, WellFormed, answer, written}
 use Rattle.strumok.specs.Opening.{Leads}
 use Rattle.strumok.specs.Moving.{movedTo, newPosition, moved}
-use Rattle.strumok.specs.Applying.{keystreamByte, keystreamByteOf, withKeystream, applyingTests, applied, appliedTarget, windowTests, windowed, windowedBuffer}
+use Rattle.strumok.specs.Applying.{keystreamByte, keystreamByteOf, withKeystream, advancingTests, applyingTests, applied, appliedTarget, windowTests, windowed, windowedBuffer}
 use Rattle.strumok.specs.ApplyingLaws.{TwoPortions, Restored, ApplyingLaws}
 use Rattle.strumok.proofs.Tests.{answer-accepted, written-accepted}
 use Rattle.strumok.proofs.Moves.{position-le, moves-to}
@@ -165,8 +165,7 @@ twice-restores s xs target k other e kn fits =
 -- ---- a window is a portion
 
 -- a test that does not apply changes no number
-untested : (s : State) (fit fit′ : Test) (n : ℕ) → fit .applies ≡ false → fit′ .applies ≡ false
-    → returned (stateTests s ++ (fit ∷ newPositionAboveTest (newPosition s (pos n)) ∷ [])) ≡ returned (stateTests s ++ (fit′ ∷ newPositionAboveTest (newPosition s (pos n)) ∷ []))
+untested : (s : State) (fit fit′ : Test) (n : ℕ) → fit .applies ≡ false → fit′ .applies ≡ false → returned (advancingTests s fit n) ≡ returned (advancingTests s fit′ n)
 untested s fit fit′ n e e′ = rw (e, e′)
 
 module _ (s : State) (buffer : List ℕ) (start count : ℕ) (h : start + count ≤ length buffer) where

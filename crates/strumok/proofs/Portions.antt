@@ -1,13 +1,13 @@
 -- Portions and windows: the number that each returns, and what the code of both makes, equated with the definitions.
 -- Assumes nothing.
 use mathlib.Core.Path.{_≡_, refl, ap, ap₂, _∙_}
-use mathlib.Core.Bool.{true, false}
+use mathlib.Core.Bool.{Bool, true, false}
 use mathlib.Core.List.{List, [], _∷_, _++_}
 use Prim.Native.Nat.{ℕ, _+_, _-_, _/_, _%_, _<_, _≤_}
 use native.Mathlib.Omega.{arith}
 use borrow.Rule.Slice.PartMut.{putMid}
-use borrow.Author.Tests.{lt-ltb, le-ltb, ltb-false}
-use lib.Dec.{T}
+use borrow.Author.Tests.{lt-ltb, le-ltb, ltb-true, ltb-false}
+use lib.Dec.{T, ltb}
 use lib.IntN.{pos}
 use lib.ListN.{length, take, drop, length-take, length-drop}
 use lib.Seq.{take-length, take-at, drop-at, drop-drop}
@@ -19,7 +19,7 @@ use Rattle.keystream.proofs.Masked.{masked-ext}
 use Rattle.keystream.proofs.Stream.{byte-at-mod}
 use Rattle.strumok.specs.Refusals.{Test, limit, accepted, newPositionAbove, sizeMarkTest, positionTest, targetTest, windowTest, newPositionAboveTest, stateTests, returned, WellFormed}
 use Rattle.strumok.specs.Moving.{movedTo, newPosition}
-use Rattle.strumok.specs.Applying.{keystreamByteOf, withKeystream, applyingTests, applied, appliedTarget, windowTests, windowed, windowedBuffer}
+use Rattle.strumok.specs.Applying.{keystreamByteOf, withKeystream, advancingTests, applyingTests, applied, appliedTarget, windowTests, windowed, windowedBuffer}
 use Rattle.strumok.proofs.Tests.{numbered, returned-first, returned-rest, returned-none, answer-accepted, written-accepted}
 use Rattle.strumok.proofs.Moves.{moved-ahead}
 
@@ -30,24 +30,21 @@ module _ (s : State) (fit : Test) (n : ℕ) where
   abbrev endTests : List Test
   endTests = fit ∷ newPositionAboveTest (newPosition s (pos n)) ∷ []
 
-  abbrev pub advancingTests : List Test
-  advancingTests = stateTests s ++ endTests
-
-  pub ill-formed : (returned (stateTests s) ≡ accepted → ⊥) → returned advancingTests ≡ returned (stateTests s)
+  pub ill-formed : (returned (stateTests s) ≡ accepted → ⊥) → returned (advancingTests s fit n) ≡ returned (stateTests s)
   ill-formed h = returned-first (stateTests s) endTests h
 
   module _ (ok : WellFormed s) where
-    past-state : returned advancingTests ≡ returned endTests
+    past-state : returned (advancingTests s fit n) ≡ returned endTests
     past-state = returned-rest (stateTests s) endTests tt ok
 
-    pub misfit : fit .applies ≡ true → returned advancingTests ≡ fit .number
+    pub misfit : fit .applies ≡ true → returned (advancingTests s fit n) ≡ fit .number
     misfit e = past-state ∙ rw e
 
     module _ (fits : fit .applies ≡ false) where
-      pub too-far : limit < s .position + n → returned advancingTests ≡ newPositionAbove
+      pub too-far : limit < s .position + n → returned (advancingTests s fit n) ≡ newPositionAbove
       too-far h = past-state ∙ rw (fits, lt-ltb limit (s .position + n) h)
 
-      pub in-range : s .position + n ≤ limit → returned advancingTests ≡ accepted
+      pub in-range : s .position + n ≤ limit → returned (advancingTests s fit n) ≡ accepted
       in-range h = past-state ∙ rw (fits, le-ltb limit (s .position + n) h)
 
   -- what its acceptance tells
@@ -56,7 +53,7 @@ module _ (s : State) (fit : Test) (n : ℕ) where
     pub fits : fit .applies ≡ false
     pub room : s .position + n ≤ limit
 
-  pub advances : T (numbered (fit ∷ [])) → returned advancingTests ≡ accepted → Advances
+  pub advances : T (numbered (fit ∷ [])) → returned (advancingTests s fit n) ≡ accepted → Advances
   advances k e =
       let size = returned-none (sizeMarkTest s) (positionTest s ∷ endTests) k e in
       let place = returned-none (positionTest s) endTests k (size .1) in
@@ -67,8 +64,16 @@ module _ (s : State) (fit : Test) (n : ℕ) where
         room = ltb-false limit (s .position + n) (returned-none (newPositionAboveTest (newPosition s (pos n))) [] tt (fit-none .1) .0);
       }
 
-  pub accepts : Advances → returned advancingTests ≡ accepted
+  pub accepts : Advances → returned (advancingTests s fit n) ≡ accepted
   accepts a = in-range (a .well-formed) (a .fits) (a .room)
+
+-- whether a window ends past the end, from the room that is left after its start
+pub past-end-is : (len start count : ℕ) → start ≤ len → ltb (len - start) count ≡ ltb len (start + count)
+past-end-is len start count h = by (ltb len (start + count)) refl
+  where
+    by : (b : Bool) → ltb len (start + count) ≡ b → ltb (len - start) count ≡ b
+    by true e = lt-ltb (len - start) count (omega (arith, ltb-true len (start + count) e))
+    by false e = le-ltb (len - start) count (omega (arith, ltb-false len (start + count) e))
 
 -- ---- the keystream of a state
 

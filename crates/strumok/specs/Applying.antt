@@ -24,11 +24,15 @@ keystreamByteOf s p = byteAt (keystreamWord (registersOf (movedTo s p))) p
 abbrev pub withKeystream : State → List ℕ → List ℕ
 withKeystream s xs = masked (keystreamByteOf s) (s .position) xs
 
+-- "applying 3, 4, 5, 7; the window 3, 4, 6, 7": what moves a state on by n bytes, `fit` being the test of its buffers, 5 or 6
+abbrev pub advancingTests : State → (fit : Test) (n : ℕ) → List Test
+advancingTests s fit n = stateTests s ++ (fit ∷ newPositionAboveTest (newPosition s (pos n)) ∷ [])
+
 -- ---- from a source to a target
 
--- "applying 3, 4, 5, 7": for a source of n bytes and a target of len
+-- for a source of n bytes and a target of len
 abbrev pub applyingTests : State → (n len : ℕ) → List Test
-applyingTests s n len = stateTests s ++ (targetTest n len ∷ newPositionAboveTest (newPosition s (pos n)) ∷ [])
+applyingTests s n len = advancingTests s (targetTest n len) n
 
 -- "Applying a source of n bytes .. moves the position on by n": the answer
 abbrev pub applied : State → (source target : List ℕ) → Answer
@@ -41,9 +45,9 @@ appliedTarget s source target =
 
 -- ---- over a window of one buffer
 
--- "the window 3, 4, 6, 7": for a buffer of len bytes
+-- for a buffer of len bytes
 abbrev pub windowTests : State → (len start count : ℕ) → List Test
-windowTests s len start count = stateTests s ++ (windowTest len start count ∷ newPositionAboveTest (newPosition s (pos count)) ∷ [])
+windowTests s len start count = advancingTests s (windowTest len start count) count
 
 -- "A window that begins anywhere inside the lent buffer may be worked over, given its start and its count": the answer
 abbrev pub windowed : State → (buffer : List ℕ) (start count : ℕ) → Answer

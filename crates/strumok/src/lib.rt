@@ -1,6 +1,7 @@
 // The cipher's calls: opening a state from key and IV, moving it, and applying its keystream from a source to a target or over a window.
 ghost use mathlib.Core.Path.{_≡_};
 ghost use Prim.Native.Nat.{_+_, _≤_};
+ghost use lib.Dec.{ltb};
 ghost use lib.ListN.{length};
 ghost use Rattle.generator.specs.declared.Kind.the-variants.{Ordinary};
 ghost use Rattle.generator.specs.Registers.{registersOf, withRegisters, next, previous, walked};
@@ -8,7 +9,7 @@ ghost use Rattle.loading.specs.Loading.{initialised};
 ghost use Rattle.strumok.specs.Refusals.{limit, stateTests, returned};
 ghost use Rattle.strumok.specs.Opening.{blank, openingTests, opened};
 ghost use Rattle.strumok.specs.Moving.{movedTo, moved};
-ghost use Rattle.strumok.specs.Applying.{withKeystream, applyingTests, applied, appliedTarget, windowTests, windowed, windowedBuffer};
+ghost use Rattle.strumok.specs.Applying.{withKeystream, advancingTests, applied, appliedTarget, windowed, windowedBuffer};
 ghost use Rattle.strumok.specs.Functions.{spanOf};
 use columns::matrix_inverse_tables;
 use columns::substitution_tables;
@@ -233,18 +234,18 @@ fn advance(s: State, buffer: &mut [u8]) -> State
     t
 }
 
-// 3, 4, 5 or 7 where a source of n bytes is refused for a target of len, else 0.
-fn applying_number(s: State, n: usize, len: usize) -> u64
-    ensures { λ r. ⌜ r ≡ returned (applyingTests s n len) ⌝ }
+// 3 or 4, the refusal where the buffers do not fit, or 7 where n bytes on there is no position, in this order; else 0.
+fn advancing_number(s: State, misfit: bool, refusal: u64, n: u64) -> u64
+    ensures { λ r. ⌜ r ≡ returned (advancingTests s (record { number = refusal; applies = misfit }) n) ⌝ }
 {
     let number = state_number(s);
     if number != refusals::ACCEPTED {
         return number;
     }
-    if n > len {
-        return refusals::TARGET_SHORTER;
+    if misfit {
+        return refusal;
     }
-    if n as u64 > refusals::LIMIT - s.position {
+    if n > refusals::LIMIT - s.position {
         return refusals::NEW_POSITION_ABOVE;
     }
     refusals::ACCEPTED
@@ -256,7 +257,8 @@ pub fn apply(s: State, source: &[u8], target: &mut [u8]) -> Answer
     ensures { λ _. ⌜ now (target .exit) ≡ appliedTarget s (now (source .entry)) (now (target .entry)) ⌝ }
 {
     let n = source.len();
-    let number = applying_number(s, n, target.len());
+    let short = n > target.len();
+    let number = advancing_number(s, short, refusals::TARGET_SHORTER, n as u64);
     if number != refusals::ACCEPTED {
         return Answer {
             number: number,
@@ -273,24 +275,14 @@ pub fn apply(s: State, source: &[u8], target: &mut [u8]) -> Answer
 
 // ---- the window
 
-// 3, 4, 6 or 7 where a window of a buffer of len bytes is refused, else 0. No sum of start and count is made that could overflow.
-fn window_number(s: State, len: usize, start: usize, count: usize) -> u64
-    ensures { λ r. ⌜ r ≡ returned (windowTests s len start count) ⌝ }
+// Whether start + count is above len, as whole numbers: no sum is made that could overflow.
+fn past_end(len: usize, start: usize, count: usize) -> bool
+    ensures { λ r. ⌜ r ≡ ltb len (start + count) ⌝ }
 {
-    let number = state_number(s);
-    if number != refusals::ACCEPTED {
-        return number;
-    }
     if start > len {
-        return refusals::WINDOW_PAST_END;
+        return true;
     }
-    if count > len - start {
-        return refusals::WINDOW_PAST_END;
-    }
-    if count as u64 > refusals::LIMIT - s.position {
-        return refusals::NEW_POSITION_ABOVE;
-    }
-    refusals::ACCEPTED
+    count > len - start
 }
 
 // The keystream over count bytes of the buffer from start on, the others kept; or a refusal, with the state as it came and nothing written.
@@ -298,7 +290,8 @@ pub fn window(s: State, buffer: &mut [u8], start: usize, count: usize) -> Answer
     ensures { λ r. ⌜ r ≡ windowed s (now (buffer .entry)) start count ⌝ }
     ensures { λ _. ⌜ now (buffer .exit) ≡ windowedBuffer s (now (buffer .entry)) start count ⌝ }
 {
-    let number = window_number(s, buffer.len(), start, count);
+    let past = past_end(buffer.len(), start, count);
+    let number = advancing_number(s, past, refusals::WINDOW_PAST_END, count as u64);
     if number != refusals::ACCEPTED {
         return Answer {
             number: number,

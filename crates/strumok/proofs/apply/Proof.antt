@@ -15,11 +15,11 @@ returns c =
     let k = c .before in
     let a = k .before .before .before .args in
     let tests = applyingTests (a .s) (length (a .source .now)) (length (a .target .now)) in
-    (answer-refused tests _ (a .s) (k .applying-number .ensures) (c .if1 .taken), written-refused tests _ (a .target .now) (k .applying-number .ensures) (c .if1 .taken))
+    (answer-refused tests _ (a .s) (k .advancing-number .ensures) (c .if1 .taken), written-refused tests _ (a .target .now) (k .advancing-number .ensures) (c .if1 .taken))
 
 -- past the tests
 ok : (c : tie.Else1) → let a = c .before .before .before .before .args in returned (applyingTests (a .s) (length (a .source .now)) (length (a .target .now))) ≡ accepted
-ok c = sym (c .before .applying-number .ensures) ∙ c .if1 .left
+ok c = sym (c .before .advancing-number .ensures) ∙ c .if1 .left
 
 copy-requires : tie.Need-copy-requires
 copy-requires c κs = let a = c .before .before .before .before .before .args in target-length (a .s) (a .source .now) (a .target .now) (ok (c .before))
