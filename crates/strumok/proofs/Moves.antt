@@ -10,7 +10,7 @@ use lib.IntN.{ℤ, pos, negsuc, natAbs, _+ℤ_}
 use Rattle.generator.specs.declared.State.{State}
 use Rattle.generator.specs.declared.Kind.the-variants.{Ordinary}
 use Rattle.generator.specs.Registers.{registersOf, stateOf, next, previous, walked}
-use Rattle.strumok.specs.declared.Span.{Span}
+use Rattle.strumok.specs.declared.moving.Span.{Span}
 use Rattle.strumok.specs.Refusals.{Test, limit, accepted, newPositionAbove, newPositionBelow, sizeMarkTest, positionTest, newPositionAboveTest, newPositionBelowTest, stateTests, returned, WellFormed}
 use Rattle.strumok.specs.Moving.{movedTo, newPosition, movingTests, moved}
 use Rattle.strumok.specs.Functions.{spanOf}

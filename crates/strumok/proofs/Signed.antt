@@ -11,7 +11,7 @@ use lib.Signed.{ltZ, mag, nonNeg}
 use mir.Syntax.{w64}
 use mir.Val.{Fits, SFits, toZ, ofZ}
 use mir.ValLaws.{toZ-ofZ}
-use Rattle.strumok.specs.declared.Span.{Span}
+use Rattle.strumok.specs.declared.moving.Span.{Span}
 use Rattle.strumok.specs.Functions.{spanOf}
 
 negative-is : (d : ℤ) → ltZ d (pos 0) ≡ true → d ≡ negsuc (mag d)

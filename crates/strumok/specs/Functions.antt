@@ -2,7 +2,7 @@
 -- Assumes nothing.
 use mathlib.Core.Bool.{true, false}
 use lib.IntN.{ℤ, pos, negsuc}
-use Rattle.strumok.specs.declared.Span.{Span}
+use Rattle.strumok.specs.declared.moving.Span.{Span}
 
 -- a signed count as a direction and a number: count bytes on, or count + 1 bytes back
 abbrev pub spanOf : ℤ → Span

@@ -1,10 +1,10 @@
--- `strumok::opening_number` meets its contract.
+-- `strumok::opening::opening_number` meets its contract.
 -- Assumes nothing.
 use mathlib.Core.Path.{sym}
 use borrow.Author.Tests.{eq-eqb, ne-eqb}
 use Rattle.strumok.proofs.Tests.{one-of, none-of}
-use Rattle.strumok.proofs.opening_number.Statement.{statement}
-use Rattle.strumok.proofs.opening_number.Tie as tie
+use Rattle.strumok.proofs.opening.opening_number.Statement.{statement}
+use Rattle.strumok.proofs.opening.opening_number.Tie as tie
 
 pub opening-number-spec : {M : Type 1} → statement M
 opening-number-spec =

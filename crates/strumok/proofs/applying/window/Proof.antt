@@ -1,4 +1,4 @@
--- `strumok::window` meets its contract: refused, nothing is done; else the keystream is applied to the part of the buffer.
+-- `strumok::applying::window` meets its contract: refused, nothing is done; else the keystream is applied to the part of the buffer.
 -- Assumes nothing.
 use mathlib.Core.Path.{_≡_, sym, ap, _∙_}
 use mathlib.Core.Bool.{Bool}
@@ -9,8 +9,8 @@ use Rattle.strumok.specs.Refusals.{accepted, windowPastEnd, returned}
 use Rattle.strumok.specs.Applying.{advancingTests, windowTests}
 use Rattle.strumok.proofs.Tests.{answer-refused, written-refused}
 use Rattle.strumok.proofs.Portions.{window-end, window-room, window-accepted}
-use Rattle.strumok.proofs.window.Statement.{statement}
-use Rattle.strumok.proofs.window.Tie as tie
+use Rattle.strumok.proofs.applying.window.Statement.{statement}
+use Rattle.strumok.proofs.applying.window.Tie as tie
 
 tested : (c : tie.After-advancing-number) → let a = c .before .before .before .args in c .advancing-number .result ≡ returned (windowTests (a .s) (length (a .buffer .now)) (a .start) (a .count))
 tested c =

@@ -1,4 +1,4 @@
--- `strumok::open` meets its contract.
+-- `strumok::opening::open` meets its contract.
 -- Assumes nothing.
 use mathlib.Core.Path.{_≡_, refl, sym, ap, _∙_}
 use native.Mathlib.Omega.{arith}
@@ -8,8 +8,8 @@ use Rattle.strumok.specs.Refusals.{accepted, returned}
 use Rattle.strumok.specs.Opening.{blank, openedState, openingTests}
 use Rattle.strumok.proofs.Tests.{answer-refused}
 use Rattle.strumok.proofs.Opened.{key-short, opens}
-use Rattle.strumok.proofs.open.Statement.{statement}
-use Rattle.strumok.proofs.open.Tie as tie
+use Rattle.strumok.proofs.opening.open.Statement.{statement}
+use Rattle.strumok.proofs.opening.open.Tie as tie
 
 returns : tie.Need-returns
 returns c =

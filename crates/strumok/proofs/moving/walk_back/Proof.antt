@@ -1,11 +1,11 @@
--- `strumok::walk_back` meets its contract: the tables are those of T inverted and of α inverse.
+-- `strumok::moving::walk_back` meets its contract: the tables are those of T inverted and of α inverse.
 -- Assumes nothing.
 use mathlib.Core.Path.{_∙_}
 use borrow.Author.Needs.{needs}
 use Rattle.generator.specs.declared.Kind.the-variants.{Ordinary}
 use Rattle.generator.proofs.GeneratorLaws.{backward-by-tables}
-use Rattle.strumok.proofs.walk_back.Statement.{statement}
-use Rattle.strumok.proofs.walk_back.Tie as tie
+use Rattle.strumok.proofs.moving.walk_back.Statement.{statement}
+use Rattle.strumok.proofs.moving.walk_back.Tie as tie
 
 returns : tie.Need-returns
 returns c =

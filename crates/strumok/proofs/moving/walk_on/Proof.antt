@@ -1,11 +1,11 @@
--- `strumok::walk_on` meets its contract: the tables are those of T and α.
+-- `strumok::moving::walk_on` meets its contract: the tables are those of T and α.
 -- Assumes nothing.
 use mathlib.Core.Path.{_∙_}
 use borrow.Author.Needs.{needs}
 use Rattle.generator.specs.declared.Kind.the-variants.{Ordinary}
 use Rattle.generator.proofs.GeneratorLaws.{forward-by-tables}
-use Rattle.strumok.proofs.walk_on.Statement.{statement}
-use Rattle.strumok.proofs.walk_on.Tie as tie
+use Rattle.strumok.proofs.moving.walk_on.Statement.{statement}
+use Rattle.strumok.proofs.moving.walk_on.Tie as tie
 
 returns : tie.Need-returns
 returns c =

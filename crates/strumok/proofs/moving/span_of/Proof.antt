@@ -1,8 +1,8 @@
--- `strumok::span_of` meets its contract, at the most negative count too.
+-- `strumok::moving::span_of` meets its contract, at the most negative count too.
 -- Assumes nothing.
 use Rattle.strumok.proofs.Signed.{turned-fits, turned-cast, turned-span, kept-cast, kept-span}
-use Rattle.strumok.proofs.span_of.Statement.{statement}
-use Rattle.strumok.proofs.span_of.Tie as tie
+use Rattle.strumok.proofs.moving.span_of.Statement.{statement}
+use Rattle.strumok.proofs.moving.span_of.Tie as tie
 
 pub span-of-spec : {M : Type 1} → statement M
 span-of-spec =

@@ -1,9 +1,9 @@
--- `strumok::move_to` meets its contract.
+-- `strumok::moving::move_to` meets its contract.
 -- Assumes nothing.
 use borrow.Author.Needs.{needs}
 use Rattle.strumok.proofs.Moves.{moved-ahead, moved-behind}
-use Rattle.strumok.proofs.move_to.Statement.{statement}
-use Rattle.strumok.proofs.move_to.Tie as tie
+use Rattle.strumok.proofs.moving.move_to.Statement.{statement}
+use Rattle.strumok.proofs.moving.move_to.Tie as tie
 
 returns : tie.Need-returns
 returns c = let a = c .before .before .before .args in moved-ahead (a .s) (a .to) (c .before .if1 .taken) (c .walk-on .ensures)

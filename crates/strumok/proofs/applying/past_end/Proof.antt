@@ -1,12 +1,12 @@
--- `strumok::past_end` meets its contract: past the end already where the window starts, or by the room that is left there.
+-- `strumok::applying::past_end` meets its contract: past the end already where the window starts, or by the room that is left there.
 -- Assumes nothing.
 use mathlib.Core.Path.{sym}
 use Prim.Native.Nat.{_+_}
 use native.Mathlib.Omega.{arith}
 use borrow.Author.Tests.{lt-ltb}
 use Rattle.strumok.proofs.Portions.{past-end-is}
-use Rattle.strumok.proofs.past_end.Statement.{statement}
-use Rattle.strumok.proofs.past_end.Tie as tie
+use Rattle.strumok.proofs.applying.past_end.Statement.{statement}
+use Rattle.strumok.proofs.applying.past_end.Tie as tie
 
 returns : tie.Need-returns
 returns c = let a = c .before .args in sym (lt-ltb (a .len) (a .start + a .count) (omega (arith, c .if1 .taken)))

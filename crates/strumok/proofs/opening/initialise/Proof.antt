@@ -1,4 +1,4 @@
--- `strumok::initialise` meets its contract: the tables are those of T and α.
+-- `strumok::opening::initialise` meets its contract: the tables are those of T and α.
 -- Assumes nothing.
 use mathlib.Core.Path.{ap, _∙_}
 use borrow.Author.Needs.{needs}
@@ -6,8 +6,8 @@ use Rattle.generator.specs.declared.Kind.the-variants.{Ordinary, Initial}
 use Rattle.generator.specs.Registers.{next, walked}
 use Rattle.generator.proofs.GeneratorLaws.{forward-by-tables}
 use Rattle.loading.specs.Loading.{initialised}
-use Rattle.strumok.proofs.initialise.Statement.{statement}
-use Rattle.strumok.proofs.initialise.Tie as tie
+use Rattle.strumok.proofs.opening.initialise.Statement.{statement}
+use Rattle.strumok.proofs.opening.initialise.Tie as tie
 
 returns : tie.Need-returns
 unfolding initialised

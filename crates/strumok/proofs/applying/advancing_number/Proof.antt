@@ -1,4 +1,4 @@
--- `strumok::advancing_number` meets its contract: each way out is the number of one test.
+-- `strumok::applying::advancing_number` meets its contract: each way out is the number of one test.
 -- Assumes nothing.
 use mathlib.Core.Path.{_≡_, sym, _∙_}
 use native.Mathlib.Omega.{arith}
@@ -6,8 +6,8 @@ use borrow.Author.Needs.{needs}
 use Rattle.strumok.specs.Refusals.{Test, WellFormed}
 use Rattle.strumok.proofs.Moves.{position-le}
 use Rattle.strumok.proofs.Portions.{ill-formed, misfit, too-far, in-range}
-use Rattle.strumok.proofs.advancing_number.Statement.{statement}
-use Rattle.strumok.proofs.advancing_number.Tie as tie
+use Rattle.strumok.proofs.applying.advancing_number.Statement.{statement}
+use Rattle.strumok.proofs.applying.advancing_number.Tie as tie
 
 -- the test of the buffers
 abbrev fit : tie.Start → Test

@@ -1,4 +1,4 @@
--- `strumok::move_by` meets its contract: each way out is one place where a move can end.
+-- `strumok::moving::move_by` meets its contract: each way out is one place where a move can end.
 -- Assumes nothing.
 use mir.Syntax.{w64}
 use mir.ValLaws.{toZ-ofZ}
@@ -9,8 +9,8 @@ use lib.IntN.{ℤ, pos, negsuc, _+ℤ_}
 use Rattle.strumok.specs.Refusals.{WellFormed}
 use Rattle.strumok.specs.Functions.{spanOf}
 use Rattle.strumok.proofs.Moves.{is-back, is-ahead, back-below, back-to, position-le, moved-ill-formed, moves-to, moves-above, moves-below}
-use Rattle.strumok.proofs.move_by.Statement.{statement}
-use Rattle.strumok.proofs.move_by.Tie as tie
+use Rattle.strumok.proofs.moving.move_by.Statement.{statement}
+use Rattle.strumok.proofs.moving.move_by.Tie as tie
 
 returns : tie.Need-returns
 returns c = let a = c .before .before .args in moved-ill-formed (a .s) (a .distance) (c .before .state-number .ensures) (c .if1 .taken)

@@ -1,10 +1,10 @@
--- `strumok::advance` meets its contract.
+-- `strumok::applying::advance` meets its contract.
 -- Assumes nothing.
 use native.Mathlib.Omega.{arith}
 use borrow.Author.Needs.{needs}
 use Rattle.strumok.proofs.Portions.{advanced-state, advanced-bytes}
-use Rattle.strumok.proofs.advance.Statement.{statement}
-use Rattle.strumok.proofs.advance.Tie as tie
+use Rattle.strumok.proofs.applying.advance.Statement.{statement}
+use Rattle.strumok.proofs.applying.advance.Tie as tie
 
 returns : tie.Need-returns
 returns c =

@@ -1,4 +1,4 @@
--- `strumok::apply` meets its contract: refused, nothing is done; else the source is copied and the keystream applied to the copy.
+-- `strumok::applying::apply` meets its contract: refused, nothing is done; else the source is copied and the keystream applied to the copy.
 -- Assumes nothing.
 use mathlib.Core.Path.{_≡_, sym, ap, _∙_}
 use borrow.Author.Needs.{needs}
@@ -7,8 +7,8 @@ use Rattle.strumok.specs.Refusals.{accepted, returned}
 use Rattle.strumok.specs.Applying.{applyingTests}
 use Rattle.strumok.proofs.Tests.{answer-refused, written-refused}
 use Rattle.strumok.proofs.Portions.{target-length, front, copied-length, portion-room, portion-accepted}
-use Rattle.strumok.proofs.apply.Statement.{statement}
-use Rattle.strumok.proofs.apply.Tie as tie
+use Rattle.strumok.proofs.applying.apply.Statement.{statement}
+use Rattle.strumok.proofs.applying.apply.Tie as tie
 
 returns : tie.Need-returns
 returns c =

@@ -1,0 +1,97 @@
+// Applying the keystream from a source to a target, and over a window of one buffer.
+ghost use mathlib.Core.Path.{_≡_};
+ghost use Prim.Native.Nat.{_+_, _≤_};
+ghost use lib.Dec.{ltb};
+ghost use lib.ListN.{length};
+ghost use Rattle.strumok.specs.Refusals.{limit, returned};
+ghost use Rattle.strumok.specs.Moving.{movedTo};
+ghost use Rattle.strumok.specs.Applying.{withKeystream, advancingTests, applied, appliedTarget, windowed, windowedBuffer};
+use crate::Answer;
+use crate::refusals;
+use crate::state_number;
+use generator::State;
+use keystream::apply_keystream;
+
+// The keystream over the whole buffer, in place, and the state moved on by its length.
+fn advance(s: State, buffer: &mut [u8]) -> State
+    requires { ⌜ s .position + length (now buffer) ≤ limit ⌝ }
+    ensures { λ r. ⌜ r ≡ movedTo s (s .position + length (now (buffer .entry))) ⌝ }
+    ensures { λ _. ⌜ now (buffer .exit) ≡ withKeystream s (now (buffer .entry)) ⌝ }
+{
+    let n = buffer.len() as u64;
+    let mut t = apply_keystream(s, buffer);
+    t.position = s.position + n;
+    t
+}
+
+// 3 or 4, the refusal where the buffers do not fit, or 7 where n bytes on there is no position, in this order; else 0.
+fn advancing_number(s: State, misfit: bool, refusal: u64, n: u64) -> u64
+    ensures { λ r. ⌜ r ≡ returned (advancingTests s (record { number = refusal; applies = misfit }) n) ⌝ }
+{
+    let number = state_number(s);
+    if number != refusals::ACCEPTED {
+        return number;
+    }
+    if misfit {
+        return refusal;
+    }
+    if n > refusals::LIMIT - s.position {
+        return refusals::NEW_POSITION_ABOVE;
+    }
+    refusals::ACCEPTED
+}
+
+// The source with the keystream applied, to the front of the target; or a refusal, with the state as it came and nothing written.
+pub fn apply(s: State, source: &[u8], target: &mut [u8]) -> Answer
+    ensures { λ r. ⌜ r ≡ applied s (now (source .entry)) (now (target .entry)) ⌝ }
+    ensures { λ _. ⌜ now (target .exit) ≡ appliedTarget s (now (source .entry)) (now (target .entry)) ⌝ }
+{
+    let n = source.len();
+    let short = n > target.len();
+    let number = advancing_number(s, short, refusals::TARGET_SHORTER, n as u64);
+    if number != refusals::ACCEPTED {
+        return Answer {
+            number: number,
+            state: s,
+        };
+    }
+    bytes::copy(source, target);
+    let t = advance(s, &mut target[..n]);
+    Answer {
+        number: refusals::ACCEPTED,
+        state: t,
+    }
+}
+
+// ---- the window
+
+// Whether start + count is above len, as whole numbers: no sum is made that could overflow.
+fn past_end(len: usize, start: usize, count: usize) -> bool
+    ensures { λ r. ⌜ r ≡ ltb len (start + count) ⌝ }
+{
+    if start > len {
+        return true;
+    }
+    count > len - start
+}
+
+// The keystream over count bytes of the buffer from start on, the others kept; or a refusal, with the state as it came and nothing written.
+pub fn window(s: State, buffer: &mut [u8], start: usize, count: usize) -> Answer
+    ensures { λ r. ⌜ r ≡ windowed s (now (buffer .entry)) start count ⌝ }
+    ensures { λ _. ⌜ now (buffer .exit) ≡ windowedBuffer s (now (buffer .entry)) start count ⌝ }
+{
+    let past = past_end(buffer.len(), start, count);
+    let number = advancing_number(s, past, refusals::WINDOW_PAST_END, count as u64);
+    if number != refusals::ACCEPTED {
+        return Answer {
+            number: number,
+            state: s,
+        };
+    }
+    let end = start + count;
+    let t = advance(s, &mut buffer[start..end]);
+    Answer {
+        number: refusals::ACCEPTED,
+        state: t,
+    }
+}
