@@ -1,15 +1,14 @@
 -- A buffer worked over in parts, lent one after the other.
 -- Assumes nothing.
-use mathlib.Core.Path.{_≡_, refl, sym, ap, _∙_}
+use mathlib.Core.Path.{_≡_, refl, ap, _∙_}
 use mathlib.Core.List.{List}
 use Prim.Native.Nat.{ℕ, _+_, _-_, _/_, _%_, _<_, _≤_}
-use native.Mathlib.Nat.{add-assoc}
 use native.Mathlib.Omega.{arith}
 use borrow.Rule.Slice.PartMut.{putMid}
 use lib.ListN.{length, take, drop, length-take, length-drop}
 use Rattle.generator.specs.declared.State.{State}
 use Rattle.generator.specs.declared.Stepped.{Stepped}
-use Rattle.generator.specs.Registers.{Registers, registersOf, keystreamWord, iterate, walked}
+use Rattle.generator.specs.Registers.{Registers, registersOf, keystreamWord, walked}
 use Rattle.keystream.specs.Keystream.{byteAt, streamByte, masked}
 use Rattle.keystream.specs.Functions.{Applied}
 use Rattle.keystream.proofs.Masked.{partly, partly-all, partly-length, partly-rest, partly-put, masked-ext}
@@ -68,9 +67,6 @@ module _ (f : Registers → Registers) (p : ℕ) (s : State) (b : List ℕ) (k n
 
   half-done : Done f p s b k t middle
   half-done = done-part f p s b (done-none f p s b below) k (omega arith) (omega arith) (omega arith) first
-
-  pub rest-length : length (take (n - k) (drop k middle)) ≡ n - k
-  rest-length = part-length f p s b half-done n h (omega arith)
 
   pub both-parts : {q : ℕ} {u : State} {zs : List ℕ} → q ≡ (p + k) % 8 → Applied f q t (take (n - k) (drop k middle)) u zs → Applied f p s b u (putMid k (n - k) middle zs)
   both-parts e second = let d = done-part f p s b half-done n h (omega arith) e second in done-all f p s b d (omega (arith, done-length f p s b d))

@@ -2,7 +2,7 @@
 -- Assumes nothing.
 use mathlib.Core.Path.{_≡_, refl, sym, ap, ap₂, _∙_}
 use mathlib.Core.Bool.{Bool, true, false, cond}
-use mathlib.Core.List.{List, [], _∷_, _++_, append-assoc, append-nil}
+use mathlib.Core.List.{List, [], _++_, append-assoc, append-nil}
 use Prim.Native.Nat.{ℕ, _+_, _-_, _/_, _≤_}
 use native.Mathlib.Nat.{add-zero}
 use native.Mathlib.Omega.{arith}
@@ -16,9 +16,9 @@ use Rattle.generator.specs.Registers.{Registers, registersOf, stateOf, keystrea
 use Rattle.keystream.specs.Keystream.{byteAt, masked}
 use Rattle.keystream.proofs.Masked.{masked-length, masked-append, masked-ext, masked-drop, masked-masked}
 use Rattle.strumok.specs.declared.Answer.{Answer}
-use Rattle.strumok.specs.Refusals.{Test, limit, accepted, targetTest, windowTest, newPositionAboveTest, stateTests, returned, WellFormed, answer, written}
+use Rattle.strumok.specs.Refusals.{Test, limit, accepted, targetTest, windowTest, returned, WellFormed, answer, written}
 use Rattle.strumok.specs.Opening.{Leads}
-use Rattle.strumok.specs.Moving.{movedTo, newPosition, moved}
+use Rattle.strumok.specs.Moving.{movedTo, moved}
 use Rattle.strumok.specs.Applying.{keystreamByte, keystreamByteOf, withKeystream, advancingTests, applyingTests, applied, appliedTarget, windowTests, windowed, windowedBuffer}
 use Rattle.strumok.specs.ApplyingLaws.{TwoPortions, Restored, ApplyingLaws}
 use Rattle.strumok.proofs.Tests.{answer-accepted, written-accepted}

@@ -14,7 +14,7 @@ use lib.Seq.{take-length, take-at, drop-at, drop-drop}
 use Rattle.generator.specs.declared.State.{State}
 use Rattle.generator.specs.declared.Kind.the-variants.{Ordinary}
 use Rattle.generator.specs.Registers.{registersOf, stateOf, next, keystreamWord, iterate, walked}
-use Rattle.keystream.specs.Keystream.{byteAt, streamByte, masked}
+use Rattle.keystream.specs.Keystream.{streamByte, masked}
 use Rattle.keystream.proofs.Masked.{masked-ext}
 use Rattle.keystream.proofs.Stream.{byte-at-mod}
 use Rattle.strumok.specs.Refusals.{Test, limit, accepted, newPositionAbove, sizeMarkTest, positionTest, targetTest, windowTest, newPositionAboveTest, stateTests, returned, WellFormed}

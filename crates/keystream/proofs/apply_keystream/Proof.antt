@@ -1,14 +1,11 @@
 -- `keystream::apply_keystream` meets its contract: the tables are those of T and α.
 -- Assumes nothing.
-use mathlib.Core.Path.{_≡_, ap, _∙_}
-use mathlib.Core.List.{List}
-use Prim.Native.Nat.{ℕ, _+_, _/_, _%_}
+use mathlib.Core.Path.{ap, _∙_}
+use Prim.Native.Nat.{_+_, _/_, _%_}
 use borrow.Author.Needs.{needs}
 use lib.ListN.{length}
-use Rattle.generator.specs.declared.Kind.the-variants.{Ordinary}
-use Rattle.generator.specs.Registers.{Registers, registersOf, next, walked}
+use Rattle.generator.specs.Registers.{Registers, registersOf, walked}
 use Rattle.keystream.specs.Keystream.{streamByte, masked}
-use Rattle.keystream.specs.Functions.{stepOver}
 use Rattle.keystream.proofs.Stream.{step-by-tables}
 use Rattle.keystream.proofs.apply_keystream.Statement.{statement}
 use Rattle.keystream.proofs.apply_keystream.Tie as tie

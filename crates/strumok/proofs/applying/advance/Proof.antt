@@ -1,6 +1,5 @@
 -- `strumok::applying::advance` meets its contract.
 -- Assumes nothing.
-use native.Mathlib.Omega.{arith}
 use borrow.Author.Needs.{needs}
 use Rattle.strumok.proofs.Portions.{advanced-state, advanced-bytes}
 use Rattle.strumok.proofs.applying.advance.Statement.{statement}
