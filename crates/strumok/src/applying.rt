@@ -8,6 +8,7 @@ ghost use Rattle.strumok.specs.Moving.{movedTo};
 ghost use Rattle.strumok.specs.Applying.{withKeystream, advancingTests, applied, appliedTarget, windowed, windowedBuffer};
 use crate::Answer;
 use crate::refusals;
+use crate::refused;
 use crate::state_number;
 use generator::State;
 use keystream::apply_keystream;
@@ -50,10 +51,7 @@ pub fn apply(s: State, source: &[u8], target: &mut [u8]) -> Answer
     let short = n > target.len();
     let number = advancing_number(s, short, refusals::TARGET_SHORTER, n as u64);
     if number != refusals::ACCEPTED {
-        return Answer {
-            number: number,
-            state: s,
-        };
+        return refused(number, s);
     }
     bytes::copy(source, target);
     let t = advance(s, &mut target[..n]);
@@ -83,10 +81,7 @@ pub fn window(s: State, buffer: &mut [u8], start: usize, count: usize) -> Answer
     let past = past_end(buffer.len(), start, count);
     let number = advancing_number(s, past, refusals::WINDOW_PAST_END, count as u64);
     if number != refusals::ACCEPTED {
-        return Answer {
-            number: number,
-            state: s,
-        };
+        return refused(number, s);
     }
     let end = start + count;
     let t = advance(s, &mut buffer[start..end]);

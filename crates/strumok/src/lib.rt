@@ -34,3 +34,13 @@ fn state_number(s: State) -> u64
         _ => refusals::SIZE_MARK,
     }
 }
+
+// A refusal: its number, and the state as it came.
+fn refused(number: u64, s: State) -> Answer
+    ensures { λ r. ⌜ r ≡ record { number = number; state = s } ⌝ }
+{
+    Answer {
+        number: number,
+        state: s,
+    }
+}

@@ -6,6 +6,7 @@ ghost use Rattle.strumok.specs.Moving.{movedTo, moved};
 ghost use Rattle.strumok.specs.Functions.{spanOf};
 use crate::Answer;
 use crate::refusals;
+use crate::refused;
 use crate::state_number;
 use columns::matrix_inverse_tables;
 use columns::substitution_tables;
@@ -83,20 +84,14 @@ pub fn move_by(s: State, distance: i64) -> Answer
 {
     let number = state_number(s);
     if number != refusals::ACCEPTED {
-        return Answer {
-            number: number,
-            state: s,
-        };
+        return refused(number, s);
     }
     let p = s.position;
     let span = span_of(distance);
     let n = span.count;
     if span.back {
         if p <= n {
-            return Answer {
-                number: refusals::NEW_POSITION_BELOW,
-                state: s,
-            };
+            return refused(refusals::NEW_POSITION_BELOW, s);
         }
         let t = move_to(s, p - n - 1);
         return Answer {
@@ -105,10 +100,7 @@ pub fn move_by(s: State, distance: i64) -> Answer
         };
     }
     if n > refusals::LIMIT - p {
-        return Answer {
-            number: refusals::NEW_POSITION_ABOVE,
-            state: s,
-        };
+        return refused(refusals::NEW_POSITION_ABOVE, s);
     }
     let t = move_to(s, p + n);
     Answer {

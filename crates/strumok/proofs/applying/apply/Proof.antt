@@ -12,10 +12,12 @@ use Rattle.strumok.proofs.applying.apply.Tie as tie
 
 returns : tie.Need-returns
 returns c =
-    let k = c .before in
+    let k = c .before .before in
     let a = k .before .before .before .args in
-    let tests = applyingTests (a .s) (length (a .source .now)) (length (a .target .now)) in
-    (answer-refused tests _ (a .s) (k .advancing-number .ensures) (c .if1 .taken), written-refused tests _ (a .target .now) (k .advancing-number .ensures) (c .if1 .taken))
+    let tests = applyingTests (a .s) (length (a .source .now)) (length (a .target .now)) in (
+      c .refused .ensures ∙ answer-refused tests _ (a .s) (k .advancing-number .ensures) (c .before .if1 .taken),
+      written-refused tests _ (a .target .now) (k .advancing-number .ensures) (c .before .if1 .taken),
+    )
 
 -- past the tests
 ok : (c : tie.Else1) → let a = c .before .before .before .before .args in returned (applyingTests (a .s) (length (a .source .now)) (length (a .target .now))) ≡ accepted
@@ -56,4 +58,4 @@ returns-2 c =
 pub apply-spec : {M : Type 1} → statement M
 apply-spec =
     tie.close
-    (tie.spec (λ c κs. search needs) returns copy-requires slice-relend-prefix-advance slice-aggregate-advance advance-requires (λ c. search needs) returns-2)
+    (tie.spec (λ c κs. search needs) (λ c κs. search needs) returns copy-requires slice-relend-prefix-advance slice-aggregate-advance advance-requires (λ c. search needs) returns-2)

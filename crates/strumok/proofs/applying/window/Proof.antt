@@ -19,9 +19,10 @@ tested c =
 
 returns : tie.Need-returns
 returns c =
-    let a = c .before .before .before .before .args in
+    let k = c .before .before in
+    let a = k .before .before .before .args in
     let tests = windowTests (a .s) (length (a .buffer .now)) (a .start) (a .count) in
-    (answer-refused tests _ (a .s) (tested (c .before)) (c .if1 .taken), written-refused tests _ (a .buffer .now) (tested (c .before)) (c .if1 .taken))
+    (c .refused .ensures ∙ answer-refused tests _ (a .s) (tested k) (c .before .if1 .taken), written-refused tests _ (a .buffer .now) (tested k) (c .before .if1 .taken))
 
 -- past the tests
 ok : (c : tie.Else1) → let a = c .before .before .before .before .args in returned (windowTests (a .s) (length (a .buffer .now)) (a .start) (a .count)) ≡ accepted
@@ -46,4 +47,4 @@ returns-2 c =
 pub window-spec : {M : Type 1} → statement M
 window-spec =
     tie.close
-    (tie.spec (λ c κs. search needs) (λ c κs. search needs) returns add-end (λ c. search needs) (λ c. search needs) part-advance-end advance-requires (λ c. search needs) returns-2)
+    (tie.spec (λ c κs. search needs) (λ c κs. search needs) (λ c κs. search needs) returns add-end (λ c. search needs) (λ c. search needs) part-advance-end advance-requires (λ c. search needs) returns-2)

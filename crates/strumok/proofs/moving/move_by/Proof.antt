@@ -13,7 +13,10 @@ use Rattle.strumok.proofs.moving.move_by.Statement.{statement}
 use Rattle.strumok.proofs.moving.move_by.Tie as tie
 
 returns : tie.Need-returns
-returns c = let a = c .before .before .args in moved-ill-formed (a .s) (a .distance) (c .before .state-number .ensures) (c .if1 .taken)
+returns c =
+    let k = c .before .before in
+    let a = k .before .args in
+    c .refused .ensures ∙ moved-ill-formed (a .s) (a .distance) (k .state-number .ensures) (c .before .if1 .taken)
 
 -- past the tests of the state
 ok : (c : tie.After-span-of) → WellFormed (c .before .before .before .args .s)
@@ -31,9 +34,11 @@ goes-on c = is-ahead _ _ (spanned (c .before)) (c .if2 .left)
 
 returns-2 : tie.Need-returns-2
 returns-2 c =
-    let a = c .before .before .before .before .before .args in
-    moves-below (a .s) (a .distance) (ok (c .before .before))
-    (ap (λ (d : ℤ). pos (a .s .position) +ℤ d) (goes-back (c .before)) ∙ back-below (a .s .position) (c .before .before .span-of .result .count) (omega (arith, c .if3 .taken)))
+    let two = c .before .before in
+    let a = two .before .before .before .before .args in
+    c .refused2 .ensures
+    ∙ moves-below (a .s) (a .distance) (ok (two .before))
+    (ap (λ (d : ℤ). pos (a .s .position) +ℤ d) (goes-back two) ∙ back-below (a .s .position) (two .before .span-of .result .count) (omega (arith, c .before .if3 .taken)))
 
 returns-3 : tie.Need-returns-3
 returns-3 c =
@@ -48,8 +53,9 @@ sub-if4 c = position-le (c .before .before .before .before .args .s) (ok (c .bef
 
 returns-4 : tie.Need-returns-4
 returns-4 c =
-    let a = c .before .before .before .before .before .args in
-    moves-above (a .s) (a .distance) (ok (c .before .before)) (ap (λ (d : ℤ). pos (a .s .position) +ℤ d) (goes-on (c .before))) (omega (arith, c .if4 .taken))
+    let two = c .before .before in
+    let a = two .before .before .before .before .args in
+    c .refused3 .ensures ∙ moves-above (a .s) (a .distance) (ok (two .before)) (ap (λ (d : ℤ). pos (a .s .position) +ℤ d) (goes-on two)) (omega (arith, c .before .if4 .taken))
 
 returns-5 : tie.Need-returns-5
 returns-5 c =
@@ -61,4 +67,4 @@ returns-5 c =
 pub move-by-spec : {M : Type 1} → statement M
 move-by-spec =
     tie.close
-    (tie.spec (λ c κs. search needs) returns (λ c κs. search needs) returns-2 (λ c. search needs) (λ c. search needs) (λ c κs. search needs) returns-3 sub-if4 returns-4 (λ c. search needs) (λ c κs. search needs) returns-5)
+    (tie.spec (λ c κs. search needs) (λ c κs. search needs) returns (λ c κs. search needs) (λ c κs. search needs) returns-2 (λ c. search needs) (λ c. search needs) (λ c κs. search needs) returns-3 sub-if4 (λ c κs. search needs) returns-4 (λ c. search needs) (λ c κs. search needs) returns-5)
