@@ -54,23 +54,6 @@ module _ (f : Registers → Registers) (p : ℕ) (s : State) (b : List ℕ) wher
             bytes = rw (d .bytes) (partly-put g p b i (d .within) (e - i) (omega arith) ey ∙ ap (partly g p b) sum);
           }
 
--- more words, from a word's start on
-pub done-words : (f : Registers → Registers) (s : State) (b : List ℕ) {i : ℕ} {t : State} {buffer : List ℕ} → Done f 0 s b i t buffer → (e : ℕ) → i % 8 ≡ 0 → i ≤ e → e ≤ length b
-    → {u : State} {ys : List ℕ} → Applied f 0 t (take (e - i) (drop i buffer)) u ys → Done f 0 s b e u (putMid i (e - i) buffer ys)
-done-words f s b d e h ie el a = done-part f 0 s b d e ie el (omega arith) a
-
--- a buffer of n bytes in two parts: the first k, then the others from where those left the state
-module _ (f : Registers → Registers) (p : ℕ) (s : State) (b : List ℕ) (k n : ℕ) (below : p < 8) (long : length b ≡ n) (h : k ≤ n) {t : State} {ys : List ℕ}
-    (first : Applied f p s (take (k - 0) (drop 0 b)) t ys) where
-  abbrev middle : List ℕ
-  middle = putMid 0 (k - 0) b ys
-
-  half-done : Done f p s b k t middle
-  half-done = done-part f p s b (done-none f p s b below) k (omega arith) (omega arith) (omega arith) first
-
-  pub both-parts : {q : ℕ} {u : State} {zs : List ℕ} → q ≡ (p + k) % 8 → Applied f q t (take (n - k) (drop k middle)) u zs → Applied f p s b u (putMid k (n - k) middle zs)
-  both-parts e second = let d = done-part f p s b half-done n h (omega arith) e second in done-all f p s b d (omega (arith, done-length f p s b d))
-
 -- ---- within one word
 
 -- a step's word, over bytes of it: up to the word's end the state is the one after the step, before that the one before it

@@ -206,39 +206,7 @@ fn apply_edge(
     if p + n < 8 { s } else { stepped.state }
 }
 
-// From the start of a word: words, then what is left.
-fn apply_tail(
-    s: State,
-    tables: &[[u64; 256]; 8],
-    alpha: &[u64; 256],
-    inverse: &[u64; 256],
-    buffer: &mut [u8],
-) -> State
-    ensures { λ r. ⌜ Applied (stepOver (now (tables .entry)) (now (alpha .entry)) (now (inverse .entry))) 0 s (now (buffer .entry)) r (now (buffer .exit)) ⌝ }
-{
-    let n = buffer.len();
-    let k = n / 8 * 8;
-    let t = apply_words(s, tables, alpha, inverse, &mut buffer[0..k]);
-    apply_edge(t, 0, tables, alpha, inverse, &mut buffer[k..n])
-}
-
-// From the start of a word: blocks, then what is left.
-fn apply_aligned(
-    s: State,
-    tables: &[[u64; 256]; 8],
-    alpha: &[u64; 256],
-    inverse: &[u64; 256],
-    buffer: &mut [u8],
-) -> State
-    ensures { λ r. ⌜ Applied (stepOver (now (tables .entry)) (now (alpha .entry)) (now (inverse .entry))) 0 s (now (buffer .entry)) r (now (buffer .exit)) ⌝ }
-{
-    let n = buffer.len();
-    let k = n / 64 * 64;
-    let t = apply_blocks(s, tables, alpha, inverse, &mut buffer[0..k]);
-    apply_tail(t, tables, alpha, inverse, &mut buffer[k..n])
-}
-
-// From byte p of the word on: bytes up to the start of the next word, then what is left.
+// From byte p of the word on: bytes up to the start of the next word, blocks, words, and what is left.
 fn apply_from(
     s: State,
     p: u64,
@@ -255,8 +223,12 @@ fn apply_from(
     if n <= k {
         return apply_edge(s, p, tables, alpha, inverse, buffer);
     }
-    let t = apply_edge(s, p, tables, alpha, inverse, &mut buffer[0..k]);
-    apply_aligned(t, tables, alpha, inverse, &mut buffer[k..n])
+    let l = k + (n - k) / 64 * 64;
+    let m = k + (n - k) / 8 * 8;
+    let a = apply_edge(s, p, tables, alpha, inverse, &mut buffer[0..k]);
+    let b = apply_blocks(a, tables, alpha, inverse, &mut buffer[k..l]);
+    let c = apply_words(b, tables, alpha, inverse, &mut buffer[l..m]);
+    apply_edge(c, 0, tables, alpha, inverse, &mut buffer[m..n])
 }
 
 // The keystream over the buffer, from the byte at the state's position on. The state's registers are walked on, its position is kept.

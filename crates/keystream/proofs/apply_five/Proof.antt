@@ -1,8 +1,9 @@
 -- `keystream::apply_five` meets its contract: words, then the rest.
 -- Assumes nothing.
+use mathlib.Core.Path.{refl}
 use native.Mathlib.Omega.{arith}
 use borrow.Author.Needs.{needs}
-use Rattle.keystream.proofs.Parts.{done-none, done-words, done-all, done-length}
+use Rattle.keystream.proofs.Parts.{done-none, done-part, done-all, done-length}
 use Rattle.keystream.proofs.apply_five.Statement.{statement}
 use Rattle.keystream.proofs.apply_five.Tie as tie
 
@@ -13,9 +14,9 @@ returns c =
     let w1 = w2 .before .before .before .before in
     let start = w1 .before .before .before in
     let d0 = done-none _ 0 (start .args .s) (start .args .part .now) (omega arith) in
-    let d1 = done-words _ _ _ d0 8 (omega arith) (omega arith) (omega (arith, start .pre)) (w1 .apply-one .ensures) in
-    let d2 = done-words _ _ _ d1 16 (omega arith) (omega arith) (omega (arith, start .pre)) (w2 .apply-one2 .ensures) in
-    let d3 = done-words _ _ _ d2 40 (omega arith) (omega arith) (omega (arith, start .pre)) (w3 .apply-three .ensures) in
+    let d1 = done-part _ 0 _ _ d0 8 (omega arith) (omega (arith, start .pre)) refl (w1 .apply-one .ensures) in
+    let d2 = done-part _ 0 _ _ d1 16 (omega arith) (omega (arith, start .pre)) refl (w2 .apply-one2 .ensures) in
+    let d3 = done-part _ 0 _ _ d2 40 (omega arith) (omega (arith, start .pre)) refl (w3 .apply-three .ensures) in
     done-all _ 0 _ _ d3 (omega (arith, done-length _ 0 _ _ d3, start .pre))
 
 pub apply-five-spec : {M : Type 1} → statement M
