@@ -1,4 +1,4 @@
--- What the inner functions of the code promise and ask.
+-- What the inner functions of the code promise.
 -- Assumes nothing.
 use mathlib.Core.Path.{_≡_}
 use mathlib.Core.List.{List}
