@@ -1,11 +1,11 @@
--- Words and their bytes: one is known by the other, and xor goes byte by byte. Tables by rule, at an entry.
+-- Words and their bytes: one is known by the other, and xor goes byte by byte. Tables by rule: how long they are, and their entries.
 -- Assumes nothing.
 use mathlib.Core.Path.{_≡_, refl, sym, ap, ap₂, _∙_, subst, fun-ext}
 use Prim.Native.Nat.{ℕ, zero, suc, _+_, _*_, _/_, _%_, _^_, _≤_, _<_}
 use native.Mathlib.Nat.{mod-lt, zero-lt-suc, div-one, le-of-suc-le-suc, not-suc-le-zero, div-eq-of-lt, lt-of-lt-of-le}
 use native.Mathlib.Omega.{arith}
 use lib.Arith.{digits-div, digits-mod, digits-lt}
-use lib.ListN.{getD}
+use lib.ListN.{length, getD}
 use lib.Pow.{pow-pos, pow-mono, pow-add, shr-shr, shr-lt, split}
 use lib.Bits.{bitXor, xor-block, xor-shr, xor-mod}
 use Rattle.galois.specs.Words.{byte, word, tabulate}
@@ -15,6 +15,10 @@ pub tabulate-at : {A : Type 0} (d : A) (n : ℕ) (f : ℕ → A) (k : ℕ) → k
 tabulate-at d zero f k h = absurd (not-suc-le-zero h)
 tabulate-at d (suc n) f zero h = refl
 tabulate-at d (suc n) f (suc k) h = tabulate-at d n (λ i. f (suc i)) k (le-of-suc-le-suc h)
+
+pub tabulate-length : {A : Type 0} (n : ℕ) (f : ℕ → A) → length (tabulate n f) ≡ n
+tabulate-length zero f = refl
+tabulate-length (suc n) f = ap suc (tabulate-length n (λ i. f (suc i)))
 
 -- ---- a byte of a word
 

@@ -29,6 +29,11 @@ module _ {g f : Registers → Registers} (u : UndoneBy g f) where
   pub iterate-undone : (n : ℕ) → UndoneBy (iterate g n) (iterate f n)
   iterate-undone n = record { keeps = iterate-keeps n; undone = iterate-back n }
 
+-- one after the other
+pub undone-compose : {g f g′ f′ : Registers → Registers} → UndoneBy g f → UndoneBy g′ f′ → UndoneBy (λ r. g (g′ r)) (λ r. f′ (f r))
+undone-compose {g} {f} u u′ =
+    record { keeps = λ r w. u′ .keeps (f r) (u .keeps r w); undone = λ r w. ap g (u′ .undone (f r) (u .keeps r w)) ∙ u .undone r w }
+
 -- what can be undone is one-to-one
 pub undone-one-to-one : {g f : Registers → Registers} → UndoneBy g f → OneToOne f
 undone-one-to-one {g} {f} u a b wa wb e = sym (u .undone a wa) ∙ ap g e ∙ u .undone b wb

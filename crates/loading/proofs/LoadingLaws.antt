@@ -1,25 +1,28 @@
 -- The laws of the loading that specs/LoadingLaws.antt states.
 -- Assumes nothing.
-use mathlib.Core.Path.{_≡_, refl, sym, ap, _∙_}
+use mathlib.Core.Path.{_≡_, refl, sym, ap, ap₂, _∙_, subst}
 use mathlib.Core.Logic.{_⊎_, inl, inr}
 use mathlib.Core.Bool.{Bool, true, false, cond}
 use mathlib.Core.List.{List, [], _∷_, map, reverse, reverse-reverse}
 use Prim.Native.Nat.{ℕ, zero, suc, _*_, _/_, _^_, _<_}
+use native.Mathlib.Numerals.{add-one}
 use native.Mathlib.Omega.{arith}
 use lib.Dec.{T, eqb, ltb, ltb→lt, lit<}
 use lib.ListN.{length, length-map, length-reverse}
 use Rattle.galois.specs.Words.{at}
-use Rattle.galois.proofs.Computed.{both, both-left, both-right, allBelow}
+use Rattle.galois.proofs.Computed.{both, both-left, both-right, allBelow, below}
 use Rattle.generator.specs.declared.Kind.the-variants.{Ordinary, Initial}
-use Rattle.generator.specs.Registers.{Registers, EighteenWords}
-use Rattle.generator.specs.GeneratorLaws.{OneToOne}
-use Rattle.generator.proofs.Iterate.{undone-one-to-one}
+use Rattle.generator.specs.Registers.{Registers, EighteenWords, next, previous, iterate}
+use Rattle.generator.specs.GeneratorLaws.{UndoneBy}
+use Rattle.generator.proofs.Iterate.{undone-compose, undone-one-to-one}
 use Rattle.generator.proofs.GeneratorLaws.{generator-laws}
 use Rattle.loading.specs.Loading.{Bytes, KeyAndIv, wordOf, Row, rowsOf, loadedCell, loadedCells, sizeMark, load, initialised, registersAt}
+use Rattle.loading.specs.Recovery.{loadedFrom, recoveredWord, recoveredKey}
 use Rattle.loading.specs.LoadingLaws.{OneToOneInBoth, LoadingLaws}
 use Rattle.loading.specs.WorkedTable.{zeros, key11, iv11}
-use Rattle.loading.proofs.Strings.{reverse-lt, wordOf-lt, string-ext}
-use Rattle.loading.proofs.Rows.{holdsKey, holdsIv, someRow, same-key, same-iv, loadedCell-lt}
+use Rattle.loading.proofs.Strings.{reverse-lt, wordOf-lt, stringOf-length, stringOf-bytes, stringOf-ext, stringOf-wordOf, string-ext}
+use Rattle.loading.proofs.Rows.{holdsKey, holdsKeyAlone, holdsIv, someRow, same-key, same-iv, loadedCell-lt}
+use Rattle.loading.proofs.Recovered.{recovers-word}
 
 size-of : {key iv : List ℕ} → KeyAndIv key iv → (sizeMark key ≡ 256) ⊎ (sizeMark key ≡ 512)
 size-of {key} o = by (o .key-length)
@@ -56,11 +59,11 @@ loads-words key iv o =
 -- ---- one-to-one
 
 -- each key word of a size stands in a row of its table, and where the size is 256 in one without an IV word, and each IV word in one
-keys-found : (size : ℕ) → (size ≡ 256) ⊎ (size ≡ 512) → T (allBelow (size / 64) (λ i. someRow (holdsKey true i) (rowsOf size)))
+keys-found : (size : ℕ) → (size ≡ 256) ⊎ (size ≡ 512) → T (allBelow (size / 64) (λ i. someRow (holdsKey i) (rowsOf size)))
 keys-found size (inl e) = rw e tt
 keys-found size (inr e) = rw e tt
 
-keys-found-alone : T (allBelow 4 (λ i. someRow (holdsKey false i) (rowsOf 256)))
+keys-found-alone : T (allBelow 4 (λ i. someRow (holdsKeyAlone i) (rowsOf 256)))
 keys-found-alone = tt
 
 ivs-found : T (allBelow 4 (λ j. someRow (holdsIv 4 j) (rowsOf 256)))
@@ -77,24 +80,38 @@ module _ (size : ℕ) (key iv key′ iv′ : List ℕ) (z : sizeMark key ≡ siz
       ap (λ (n : ℕ). loadedCells (rowsOf n) (wordOf key) (wordOf iv)) (sym z) ∙ ap (λ (r : Registers). r .cells) e ∙ ap (λ (n : ℕ). loadedCells (rowsOf n) (wordOf key′) (wordOf iv′)) z′ in
       sym (reverse-reverse a) ∙ ap reverse cells ∙ reverse-reverse b
 
+recovers : (key iv : List ℕ) → KeyAndIv key iv → recoveredKey (length key) iv (load key iv .cells) ≡ key
+unfolding recoveredKey load loadedCells
+recovers key iv o =
+    let size = sizeMark key in
+    let words = recovers-word (wordOf key) (wordOf iv) (rowsOf size) in
+    stringOf-ext (length key) _ (wordOf key) (λ i h. words i (below (size / 64) (λ i. someRow (holdsKey i) (rowsOf size)) (keys-found size (size-of o)) i (within i h (size-of o))))
+    ∙ stringOf-wordOf key (o .key-bytes)
+  where
+    within : (i : ℕ) → 8 * i < length key → (sizeMark key ≡ 256) ⊎ (sizeMark key ≡ 512) → i < sizeMark key / 64
+    within i h (inl e) = rw e (omega arith)
+    within i h (inr e) = rw e (omega arith)
+
 one-to-one-in-key : (key key′ iv : List ℕ) → KeyAndIv key iv → KeyAndIv key′ iv → sizeMark key ≡ sizeMark key′ → load key iv ≡ load key′ iv → key ≡ key′
 one-to-one-in-key key key′ iv o o′ z e =
-    let n = sizeMark key / 64 in
-    let rows = same-rows (sizeMark key) key iv key′ iv refl (sym z) e in
-    let words = same-key (wordOf key) (wordOf iv) (wordOf key′) (wordOf iv) (rowsOf (sizeMark key)) rows true n (keys-found (sizeMark key) (size-of o)) (λ t j. refl) in
-    let l : length key′ ≡ length key = omega arith in
-    string-ext n key key′ (whole (size-of o)) (l ∙ whole (size-of o)) (o .key-bytes) (o′ .key-bytes) words
-  where
-    whole : (sizeMark key ≡ 256) ⊎ (sizeMark key ≡ 512) → length key ≡ 8 * (sizeMark key / 64)
-    whole (inl l) = let e : length key ≡ 32 = omega arith in rw e
-    whole (inr l) = let e : length key ≡ 64 = omega arith in rw e
+    let l : length key ≡ length key′ = omega arith in
+    sym (recovers key iv o) ∙ ap₂ (λ (n : ℕ) (r : Registers). recoveredKey n iv (r .cells)) l e ∙ recovers key′ iv o′
+
+recovered-bytes : (n : ℕ) (iv cells : List ℕ) → Bytes (recoveredKey n iv cells)
+unfolding recoveredKey
+recovered-bytes n iv cells = stringOf-bytes n (recoveredWord (rowsOf (8 * n)) (wordOf iv) cells)
+
+recovered-length : (n : ℕ) (iv cells : List ℕ) → length (recoveredKey n iv cells) ≡ n
+unfolding recoveredKey
+recovered-length n iv cells = stringOf-length n (recoveredWord (rowsOf (8 * n)) (wordOf iv) cells)
 
 one-to-one-in-both-256 : OneToOneInBoth 256
 one-to-one-in-both-256 key iv key′ iv′ o o′ z z′ e =
     let rows = same-rows 256 key iv key′ iv′ z z′ e in
-    let words = same-key (wordOf key) (wordOf iv) (wordOf key′) (wordOf iv′) (rowsOf 256) rows false 4 keys-found-alone (λ t j. absurd t) in (
-      string-ext 4 key key′ (omega arith) (omega arith) (o .key-bytes) (o′ .key-bytes) words,
-      string-ext 4 iv iv′ (o .iv-length) (o′ .iv-length) (o .iv-bytes) (o′ .iv-bytes) (same-iv (wordOf key) (wordOf iv) (wordOf key′) (wordOf iv′) (rowsOf 256) rows 4 4 ivs-found words),
+    let words = same-key (wordOf key) (wordOf iv) (wordOf key′) (wordOf iv′) (rowsOf 256) rows 4 keys-found-alone in
+    let same-ivs = same-iv (wordOf key) (wordOf iv) (wordOf key′) (wordOf iv′) (rowsOf 256) rows 4 4 ivs-found words in (
+      string-ext key key′ (omega arith) (o .key-bytes) (o′ .key-bytes) (λ i h. words i (omega arith)),
+      string-ext iv iv′ (o .iv-length ∙ sym (o′ .iv-length)) (o .iv-bytes) (o′ .iv-bytes) (λ j h. same-ivs j (omega (arith, o .iv-length))),
     )
 
 -- ---- case 11: two pairs that load alike
@@ -122,28 +139,35 @@ pub initialised-words : (r : Registers) → EighteenWords r → EighteenWords (i
 unfolding initialised
 initialised-words r w = generator-laws .previous-next Ordinary .keeps _ (generator-laws .back-forward Initial 32 .keeps r w)
 
-initialised-one-to-one : OneToOne initialised
-unfolding initialised
-initialised-one-to-one a b wa wb e =
-    let walk = generator-laws .back-forward Initial 32 in
-    generator-laws .forward-one-to-one Initial 32 a b wa wb (undone-one-to-one (generator-laws .previous-next Ordinary) _ _ (walk .keeps a wa) (walk .keeps b wb) e)
+walk-back-undoes : (n : ℕ) → UndoneBy (loadedFrom n) (λ r. iterate (next Ordinary) n (initialised r))
+unfolding initialised loadedFrom
+walk-back-undoes n =
+    subst (λ (m : ℕ). UndoneBy (λ r. iterate (previous Initial) 32 (iterate (previous Ordinary) m r)) (λ r. iterate (next Ordinary) n (initialised r))) (sym (add-one n))
+    (undone-compose (undone-compose (generator-laws .back-forward Initial 32) (generator-laws .previous-next Ordinary)) (generator-laws .back-forward Ordinary n))
+
+walk-back-undone : (n : ℕ) → UndoneBy (λ r. iterate (next Ordinary) n (initialised r)) (loadedFrom n)
+unfolding initialised loadedFrom
+walk-back-undone n =
+    subst (λ (m : ℕ). UndoneBy (λ r. iterate (next Ordinary) n (initialised r)) (λ r. iterate (previous Initial) 32 (iterate (previous Ordinary) m r))) (sym (add-one n))
+    (undone-compose (undone-compose (generator-laws .forward-back Ordinary n) (generator-laws .next-previous Ordinary)) (generator-laws .forward-back Initial 32))
 
 -- registers after n steps that are the same were loaded alike
 loaded-alike : (key iv key′ iv′ : List ℕ) → KeyAndIv key iv → KeyAndIv key′ iv′ → (n : ℕ) → registersAt key iv n ≡ registersAt key′ iv′ n → load key iv ≡ load key′ iv′
 unfolding registersAt
-loaded-alike key iv key′ iv′ o o′ n e =
-    let w = loads-words key iv o in
-    let w′ = loads-words key′ iv′ o′ in
-    initialised-one-to-one (load key iv) (load key′ iv′) w w′
-    (generator-laws .forward-one-to-one Ordinary n _ _ (initialised-words (load key iv) w) (initialised-words (load key′ iv′) w′) e)
+loaded-alike key iv key′ iv′ o o′ n e = undone-one-to-one (walk-back-undoes n) (load key iv) (load key′ iv′) (loads-words key iv o) (loads-words key′ iv′ o′) e
 
 pub loading-laws : LoadingLaws
 loading-laws =
     record {
       loads-words = loads-words;
+      recovers = recovers;
       one-to-one-in-key = one-to-one-in-key;
+      recovered-bytes = recovered-bytes;
+      recovered-length = recovered-length;
       one-to-one-in-both-256 = one-to-one-in-both-256;
       not-one-to-one-in-both-512 = not-one-to-one-in-both-512;
+      walk-back-undoes = walk-back-undoes;
+      walk-back-undone = walk-back-undone;
       registers-one-to-one-in-key = λ key key′ iv o o′ z n e. one-to-one-in-key key key′ iv o o′ z (loaded-alike key iv key′ iv o o′ n e);
       registers-one-to-one-in-both = λ key iv key′ iv′ o o′ z z′ n e. one-to-one-in-both-256 key iv key′ iv′ o o′ z z′ (loaded-alike key iv key′ iv′ o o′ n e);
     }

@@ -1,4 +1,4 @@
--- The loading tables: the words that stand in a table's rows are known from the cells. One law for both sizes, with or without the IV.
+-- The loading tables: the words that stand in a table's rows are known from the cells.
 -- Assumes nothing.
 use mathlib.Core.Path.{_≡_, refl, sym, ap, ap₂, _∙_}
 use mathlib.Core.Bool.{Bool, true, false, _||_}
@@ -10,15 +10,20 @@ use lib.ListN.{drop}
 use Rattle.galois.specs.Words.{at}
 use Rattle.galois.proofs.Computed.{both, both-left, both-right, allBelow, below}
 use Rattle.galois.proofs.Xor.{xor-cancel-l, xor-cancel-r}
-use Rattle.loading.specs.Loading.{Row, K, notK, KxorIV, loadedCell}
+use Rattle.loading.specs.Loading.{complement, Row, K, notK, KxorIV, loadedCell}
+use Rattle.loading.specs.Recovery.{keyIndex}
 
 -- ---- what a row holds
 
--- K_i can be read from the cell of this row, where the IV is known or is not needed
-abbrev pub holdsKey : (known : Bool) → ℕ → Row → Bool
-holdsKey known i (K a) = eqb a i
-holdsKey known i (notK a) = eqb a i
-holdsKey known i (KxorIV a b) = both known (eqb a i)
+-- K_i stands in this row
+abbrev pub holdsKey : ℕ → Row → Bool
+holdsKey i row = eqb (keyIndex row) i
+
+-- and without an IV word
+abbrev pub holdsKeyAlone : ℕ → Row → Bool
+holdsKeyAlone i (K a) = eqb a i
+holdsKeyAlone i (notK a) = eqb a i
+holdsKeyAlone i (KxorIV a b) = false
 
 -- IV_j can be read from the cell of this row, where the key words below n are known
 abbrev pub holdsIv : (n : ℕ) → ℕ → Row → Bool
@@ -41,18 +46,14 @@ found f g h (r ∷ rows) e t = by (f r) refl t (found f g h rows (ap (drop 1) e)
 
 -- ---- two loadings of a table that are the same
 
-xor-known-r : (a b x y : ℕ) → x ≡ y → bitXor a x ≡ bitXor b y → a ≡ b
-xor-known-r a b x y p e = sym (xor-cancel-r a x) ∙ ap₂ bitXor e p ∙ xor-cancel-r b y
-
 xor-known-l : (a b x y : ℕ) → a ≡ b → bitXor a x ≡ bitXor b y → x ≡ y
 xor-known-l a b x y p e = sym (xor-cancel-l a x) ∙ ap₂ bitXor p e ∙ xor-cancel-l b y
 
 module _ (k v k′ v′ : ℕ → ℕ) where
-  key-in-row : (known : Bool) (i : ℕ) (r : Row) → (T known → (j : ℕ) → v j ≡ v′ j) → T (holdsKey known i r) → loadedCell k v r ≡ loadedCell k′ v′ r → k i ≡ k′ i
-  key-in-row known i (K a) iv t e = rw (← eqb→eq a i t) e
-  key-in-row known i (notK a) iv t e = rw (← eqb→eq a i t) (xor-known-r (k a) (k′ a) _ _ refl e)
-  key-in-row known i (KxorIV a b) iv t e =
-      rw (← eqb→eq a i (both-right known (eqb a i) t)) (xor-known-r (k a) (k′ a) (v b) (v′ b) (iv (both-left known (eqb a i) t) b) e)
+  key-in-row : (i : ℕ) (r : Row) → T (holdsKeyAlone i r) → loadedCell k v r ≡ loadedCell k′ v′ r → k i ≡ k′ i
+  key-in-row i (K a) t e = rw (← eqb→eq a i t) e
+  key-in-row i (notK a) t e = rw (← eqb→eq a i t) (sym (xor-cancel-r (k a) _) ∙ ap complement e ∙ xor-cancel-r (k′ a) _)
+  key-in-row i (KxorIV a b) t e = absurd t
 
   iv-in-row : (n j : ℕ) (r : Row) → ((i : ℕ) → i < n → k i ≡ k′ i) → T (holdsIv n j r) → loadedCell k v r ≡ loadedCell k′ v′ r → v j ≡ v′ j
   iv-in-row n j (K a) key t e = absurd t
@@ -62,10 +63,10 @@ module _ (k v k′ v′ : ℕ → ℕ) where
 
   module _ (rows : List Row) (e : map (loadedCell k v) rows ≡ map (loadedCell k′ v′) rows) where
     -- the first n key words are the same
-    pub same-key : (known : Bool) (n : ℕ) → T (allBelow n (λ i. someRow (holdsKey known i) rows)) → (T known → (j : ℕ) → v j ≡ v′ j) → (i : ℕ) → i < n → k i ≡ k′ i
-    same-key known n t iv i h =
-        let r = found (holdsKey known i) (loadedCell k v) (loadedCell k′ v′) rows e (below n (λ i. someRow (holdsKey known i) rows) t i h) in
-        key-in-row known i (r .0) iv (r .1 .0) (r .1 .1)
+    pub same-key : (n : ℕ) → T (allBelow n (λ i. someRow (holdsKeyAlone i) rows)) → (i : ℕ) → i < n → k i ≡ k′ i
+    same-key n t i h =
+        let r = found (holdsKeyAlone i) (loadedCell k v) (loadedCell k′ v′) rows e (below n (λ i. someRow (holdsKeyAlone i) rows) t i h) in
+        key-in-row i (r .0) (r .1 .0) (r .1 .1)
 
     -- and then the first m IV words
     pub same-iv : (n m : ℕ) → T (allBelow m (λ j. someRow (holdsIv n j) rows)) → ((i : ℕ) → i < n → k i ≡ k′ i) → (j : ℕ) → j < m → v j ≡ v′ j

@@ -9,9 +9,11 @@ use borrow.Author.Tests.{ltb-true, ltb-false}
 use lib.Dec.{ltb, lit<}
 use lib.ListN.{length, length-reverse, List·getD-append, List·getD-eq-default}
 use lib.Seq.{ext-getD, getD-at}
-use Rattle.galois.specs.Words.{byte, at}
-use Rattle.galois.proofs.Bytes.{byte-word, word-lt}
+use Rattle.galois.specs.Words.{byte, tabulate, at}
+use Rattle.galois.proofs.Bytes.{tabulate-at, tabulate-length, byte-lt, byte-word, word-lt}
+use Rattle.galois.proofs.Spread.{tabulate-ext}
 use Rattle.loading.specs.Loading.{Bytes, wordOf}
+use Rattle.loading.specs.Recovery.{stringOf}
 
 -- ---- the string from its end
 
@@ -44,6 +46,11 @@ module _ {m : ℕ} (pos : 0 < m) where
       cons zero = hl zero
       cons (suc j) = hr j
 
+  tabulate-lt : (n : ℕ) (f : ℕ → ℕ) → ((i : ℕ) → f i < m) → (j : ℕ) → at (tabulate n f) j < m
+  tabulate-lt zero f h j = pos
+  tabulate-lt (suc n) f h zero = h 0
+  tabulate-lt (suc n) f h (suc j) = tabulate-lt n (λ i. f (suc i)) (λ i. h (suc i)) j
+
   pub reverse-lt : (l : List ℕ) → ((j : ℕ) → at l j < m) → (j : ℕ) → at (reverse l) j < m
   reverse-lt l h = reverseAux-lt l [] h (λ j. pos)
 
@@ -63,13 +70,45 @@ byte-of-word l h k =
     let e : 8 * (k / 8) + k % 8 ≡ k = omega arith in
     sym (byte-word 8 (λ j. at (reverse l) (8 * (k / 8) + j)) (λ j. bytes-from-end l h (8 * (k / 8) + j)) (k % 8) (omega arith) ∙ ap (at (reverse l)) e)
 
--- strings of n words each that are the same
-pub string-ext : (n : ℕ) (a b : List ℕ) → length a ≡ 8 * n → length b ≡ 8 * n → Bytes a → Bytes b → ((i : ℕ) → i < n → wordOf a i ≡ wordOf b i) → a ≡ b
-string-ext n a b la lb ha hb same = sym (reverse-reverse a) ∙ ap reverse reversed ∙ reverse-reverse b
-  where
-    at-byte : (k : ℕ) → k < length (reverse a) → at (reverse a) k ≡ at (reverse b) k
-    at-byte k h =
-        byte-of-word a ha k ∙ ap (λ (w : ℕ). byte w (k % 8)) (same (k / 8) (omega (arith, length-reverse a))) ∙ sym (byte-of-word b hb k)
+-- ---- the string of words
 
-    reversed : reverse a ≡ reverse b
-    reversed = ext-getD 0 (reverse a) (reverse b) (length-reverse a ∙ la ∙ sym lb ∙ sym (length-reverse b)) at-byte
+module _ (n : ℕ) (k : ℕ → ℕ) where
+  -- byte p from the end
+  abbrev byteFromEnd : ℕ → ℕ
+  byteFromEnd p = byte (k (p / 8)) (p % 8)
+
+  pub stringOf-length : length (stringOf n k) ≡ n
+  unfolding stringOf
+  stringOf-length = length-reverse (tabulate n byteFromEnd) ∙ tabulate-length n byteFromEnd
+
+  pub stringOf-at : (p : ℕ) → p < n → at (stringOf n k) p ≡ byteFromEnd (n - 1 - p)
+  unfolding stringOf
+  stringOf-at p h =
+      reverse-at (tabulate n byteFromEnd) p (rw (tabulate-length n byteFromEnd) h)
+      ∙ ap (λ (m : ℕ). at (tabulate n byteFromEnd) (m - 1 - p)) (tabulate-length n byteFromEnd)
+      ∙ tabulate-at 0 n byteFromEnd (n - 1 - p) (omega arith)
+
+  pub stringOf-bytes : Bytes (stringOf n k)
+  unfolding stringOf
+  stringOf-bytes = bytes-from-end (tabulate n byteFromEnd) (tabulate-lt (lit< tt) n byteFromEnd (λ p. byte-lt (k (p / 8)) (p % 8)))
+
+-- it depends on the words that begin in it
+pub stringOf-ext : (n : ℕ) (k k′ : ℕ → ℕ) → ((i : ℕ) → 8 * i < n → k i ≡ k′ i) → stringOf n k ≡ stringOf n k′
+unfolding stringOf
+stringOf-ext n k k′ h =
+    ap reverse (tabulate-ext n (byteFromEnd n k) (byteFromEnd n k′) (λ p l. ap (λ (w : ℕ). byte w (p % 8)) (h (p / 8) (omega arith))))
+
+-- a string is that of its words
+pub stringOf-wordOf : (l : List ℕ) → Bytes l → stringOf (length l) (wordOf l) ≡ l
+unfolding stringOf
+stringOf-wordOf l h =
+    let f = byteFromEnd (length l) (wordOf l) in
+    let long = tabulate-length (length l) f in
+    let bytes : tabulate (length l) f ≡ reverse l =
+    ext-getD 0 (tabulate (length l) f) (reverse l) (long ∙ sym (length-reverse l)) (λ p lt. tabulate-at 0 (length l) f p (omega (arith, long)) ∙ sym (byte-of-word l h p)) in
+    ap reverse bytes ∙ reverse-reverse l
+
+-- strings that have the same words are the same
+pub string-ext : (a b : List ℕ) → length a ≡ length b → Bytes a → Bytes b → ((i : ℕ) → 8 * i < length a → wordOf a i ≡ wordOf b i) → a ≡ b
+string-ext a b l ha hb same =
+    sym (stringOf-wordOf a ha) ∙ stringOf-ext (length a) (wordOf a) (wordOf b) same ∙ ap (λ (n : ℕ). stringOf n (wordOf b)) l ∙ stringOf-wordOf b hb

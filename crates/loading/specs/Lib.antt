@@ -1,4 +1,5 @@
 -- The definitions that the contracts of loading cite, its laws, and the worked table.
 pub mod Loading
+pub mod Recovery
 pub mod LoadingLaws
 pub mod WorkedTable

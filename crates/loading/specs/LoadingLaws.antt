@@ -3,8 +3,12 @@
 use mathlib.Core.Path.{_≡_}
 use mathlib.Core.List.{List}
 use Prim.Native.Nat.{ℕ}
-use Rattle.generator.specs.Registers.{EighteenWords}
-use Rattle.loading.specs.Loading.{KeyAndIv, sizeMark, load, registersAt}
+use lib.ListN.{length}
+use Rattle.generator.specs.declared.Kind.the-variants.{Ordinary}
+use Rattle.generator.specs.Registers.{EighteenWords, next, iterate}
+use Rattle.generator.specs.GeneratorLaws.{UndoneBy}
+use Rattle.loading.specs.Loading.{Bytes, KeyAndIv, sizeMark, load, initialised, registersAt}
+use Rattle.loading.specs.Recovery.{loadedFrom, recoveredKey}
 
 -- of keys with this size mark, the loading is one-to-one in key and IV together
 abbrev pub OneToOneInBoth : ℕ → Type 0
@@ -14,12 +18,19 @@ OneToOneInBoth size =
 pub record LoadingLaws : Type 0 where
   -- sixteen cells and two registers are loaded, and all hold words
   pub loads-words : (key iv : List ℕ) → KeyAndIv key iv → EighteenWords (load key iv)
-  -- with the IV known the loading is one-to-one in the key, for both sizes
+  -- with the IV known the key comes back from the cells that it loads, for both sizes, so the loading is one-to-one in the key
+  pub recovers : (key iv : List ℕ) → KeyAndIv key iv → recoveredKey (length key) iv (load key iv .cells) ≡ key
   pub one-to-one-in-key : (key key′ iv : List ℕ) → KeyAndIv key iv → KeyAndIv key′ iv → sizeMark key ≡ sizeMark key′ → load key iv ≡ load key′ iv → key ≡ key′
+  -- and whatever the cells hold, what comes back is a string of bytes, as long as is asked
+  pub recovered-bytes : (n : ℕ) (iv cells : List ℕ) → Bytes (recoveredKey n iv cells)
+  pub recovered-length : (n : ℕ) (iv cells : List ℕ) → length (recoveredKey n iv cells) ≡ n
   -- for 256 bits it is one-to-one in key and IV together
   pub one-to-one-in-both-256 : OneToOneInBoth 256
   -- for 512 bits it is not: "Different pairs of key and IV can therefore load alike (case 11)"
   pub not-one-to-one-in-both-512 : OneToOneInBoth 512 → ⊥
-  -- so are the registers after n steps, for every n: with the IV known in the key, and for 256 bits in both
+  -- the walk back undoes the way from the loaded registers to those after n steps, and is undone by it, for every n
+  pub walk-back-undoes : (n : ℕ) → UndoneBy (loadedFrom n) (λ r. iterate (next Ordinary) n (initialised r))
+  pub walk-back-undone : (n : ℕ) → UndoneBy (λ r. iterate (next Ordinary) n (initialised r)) (loadedFrom n)
+  -- so the registers after n steps are one-to-one too: with the IV known in the key, and for 256 bits in both
   pub registers-one-to-one-in-key : (key key′ iv : List ℕ) → KeyAndIv key iv → KeyAndIv key′ iv → sizeMark key ≡ sizeMark key′ → (n : ℕ) → registersAt key iv n ≡ registersAt key′ iv n → key ≡ key′
   pub registers-one-to-one-in-both : (key iv key′ iv′ : List ℕ) → KeyAndIv key iv → KeyAndIv key′ iv′ → sizeMark key ≡ 256 → sizeMark key′ ≡ 256 → (n : ℕ) → registersAt key iv n ≡ registersAt key′ iv′ n → (key ≡ key′) × (iv ≡ iv′)

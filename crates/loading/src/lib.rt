@@ -1,4 +1,7 @@
-// The words of a key and an IV, and the sixteen cells that are loaded with them.
+// The words of a key and an IV, the sixteen cells that are loaded with them, and the key that cells give.
+mod recovering;
+
+pub use recovering::recover_key;
 ghost use mathlib.Core.Path.{_≡_};
 ghost use mathlib.Core.List.{reverse};
 ghost use Prim.Native.Nat.{_<_};

@@ -1,6 +1,7 @@
 -- Chains of accepted calls: where they lead, and what a further portion or window writes there.
 -- Assumes nothing.
-use mathlib.Core.Path.{_≡_, sym, ap, _∙_, subst}
+use mathlib.Core.Path.{_≡_, refl, sym, ap, _∙_, subst}
+use mathlib.Core.Logic.{_⊎_, inl, inr}
 use mathlib.Core.List.{List, [], _∷_, _++_}
 use Prim.Native.Nat.{ℕ, _+_, _-_, _<_, _≤_}
 use native.Mathlib.Nat.{zero-add}
@@ -12,14 +13,32 @@ use lib.Seq.{length-take-le, getD-append-add, getD-take, getD-drop}
 use Rattle.galois.specs.Words.{at}
 use Rattle.generator.specs.declared.State.{State}
 use Rattle.keystream.proofs.Masked.{masked-length, masked-at}
-use Rattle.strumok.specs.Refusals.{accepted}
-use Rattle.strumok.specs.Opening.{Leads, opened}
+use Rattle.strumok.specs.Refusals.{Test, accepted, targetTest, windowTest, WellFormed}
+use Rattle.strumok.specs.Opening.{Leads, openedState, opened}
 use Rattle.strumok.specs.Moving.{movedTo}
 use Rattle.strumok.specs.Applying.{keystreamByte, keystreamByteOf, withKeystream, applied, appliedTarget, windowed, windowedBuffer}
-use Rattle.strumok.specs.Demands.{Call, portion, window, move, answerTo, countOf, after, AllAccepted, total, Reached, Ciphered, KeystreamAt}
-use Rattle.strumok.proofs.MovingLaws.{position-moved, moved-to-leads, moving-laws}
-use Rattle.strumok.proofs.Portions.{window-end}
+use Rattle.strumok.specs.Demands.{Call, portion, window, move, check, answerTo, countOf, after, AllAccepted, total, Reached, Ciphered, KeystreamAt}
+use Rattle.strumok.proofs.Opened.{key-and-iv}
+use Rattle.strumok.proofs.MovingLaws.{ends, moved-state, moved-well-formed, position-moved, moved-to-leads, moving-laws}
+use Rattle.strumok.proofs.Portions.{Advances, advances, window-end}
 use Rattle.strumok.proofs.ApplyingLaws.{accepted-portion, portion-bytes, portion-long, applying-laws}
+
+-- ---- a chain ends well-formed
+
+on-well-formed : (s : State) (fit : Test) (n : ℕ) → Advances s fit n → WellFormed (movedTo s (s .position + n))
+on-well-formed s fit n a = moved-well-formed s (s .position + n) (a .well-formed) (a .room)
+
+answer-well-formed : (s : State) (c : Call) → WellFormed s → answerTo s c .number ≡ accepted → WellFormed (answerTo s c .state)
+answer-well-formed s (portion source target) w e = rw e (on-well-formed s (targetTest (length source) (length target)) (length source) (advances s _ (length source) tt e))
+answer-well-formed s (window buffer start count) w e = rw e (on-well-formed s (windowTest (length buffer) start count) count (advances s _ count tt e))
+answer-well-formed s (move distance) w e =
+    let end = ends s distance e in
+    subst WellFormed (sym (moved-state s distance e)) (moved-well-formed s (end .to) (end .well-formed) (end .low))
+answer-well-formed s (check iv target) w e = rw e w
+
+after-well-formed : (s : State) (calls : List Call) → WellFormed s → AllAccepted s calls → WellFormed (after s calls)
+after-well-formed s [] w a = w
+after-well-formed s (c ∷ calls) w a = after-well-formed (answerTo s c .state) calls (answer-well-formed s c w (a .0)) (a .1)
 
 -- ---- where a chain leads
 
@@ -32,6 +51,7 @@ module _ {key iv : List ℕ} where
   answer-leads s (portion source target) l e = on-leads (length source) l (rw e)
   answer-leads s (window buffer start count) l e = on-leads count l (rw e)
   answer-leads s (move distance) l e = (moving-laws .moved-leads key iv s distance l e, moving-laws .new-position s distance e)
+  answer-leads s (check iv′ target) l e = (rw e l, rw e (sym (+ℤ-idr (pos (s .position)))))
 
   after-leads : (s : State) (calls : List Call) → Leads key iv s → AllAccepted s calls → Leads key iv (after s calls) × (pos (after s calls .position) ≡ pos (s .position) +ℤ total calls)
   after-leads s [] l a = (l, sym (+ℤ-idr (pos (s .position))))
@@ -52,6 +72,16 @@ module _ {key iv : List ℕ} where
 
     pub reached-position : pos (s .position) ≡ total calls
     reached-position = ap (λ (x : State). pos (x .position)) (r .state) ∙ chain .1 ∙ ap (λ (p : ℕ). pos p +ℤ total calls) opened-position ∙ +ℤ-idl (total calls)
+
+    opened-well-formed : WellFormed (opened key iv .state)
+    opened-well-formed = let o = key-and-iv (r .opening) in rw (r .opening .opens) (by (o .key-length))
+      where
+        by : (length key ≡ 32) ⊎ (length key ≡ 64) → WellFormed (openedState key iv)
+        by (inl e) = rw e refl
+        by (inr e) = rw e refl
+
+    pub reached-well-formed : WellFormed s
+    reached-well-formed = subst WellFormed (sym (r .state)) (after-well-formed (opened key iv .state) calls opened-well-formed (r .accepts))
 
 -- ---- what is written
 

@@ -6,6 +6,9 @@ pub mod Opened
 pub mod Walks
 pub mod MovingLaws
 pub mod Portions
+pub mod Checks
 pub mod ApplyingLaws
 pub mod Chains
+pub mod Lines
+pub mod Stored
 pub mod Demands

@@ -13,7 +13,7 @@ use Rattle.generator.specs.Registers.{withRegisters}
 use Rattle.loading.specs.Loading.{KeyAndIv, load, initialised, sizeMark, registersAt}
 use Rattle.strumok.specs.Refusals.{keyLengthTest, ivLengthTest, accepted, returned}
 use Rattle.strumok.specs.Opening.{blank, openedState, openingTests, opened, Accepted}
-use Rattle.strumok.proofs.Tests.{is-one-of, returned-none, answer-accepted}
+use Rattle.strumok.proofs.Tests.{one-of, is-one-of, returned-none, answer-accepted}
 
 -- ---- what an accepted opening tells
 
@@ -37,6 +37,9 @@ key-and-iv {key} {iv} o =
       iv-bytes = o .iv-bytes;
       iv-length = eqb-true (length iv) 32 (not-false (eqb (length iv) 32) (returned-none (ivLengthTest iv) [] tt rest .0));
     }
+
+pub both-fit : (key iv : List ℕ) → (length key ≡ 32) ⊎ (length key ≡ 64) → length iv ≡ 32 → returned (openingTests key iv) ≡ accepted
+both-fit key iv h l = rw (one-of (length key) 32 64 h, l)
 
 -- ---- opening
 

@@ -1,9 +1,9 @@
 -- The demands, as statements. Their proofs are proofs/Demands.antt: `refusals : Refusals`, `keystream : Keystream` and
--- `openings-differ : OpeningsDiffer`.
+-- `stored-states : StoredStates`.
 -- Assumes nothing.
 use mathlib.Core.Path.{_≡_}
 use mathlib.Core.Logic.{_⊎_}
-use mathlib.Core.List.{List, [], _∷_}
+use mathlib.Core.List.{List, [], _∷_, _++_}
 use Prim.Native.Nat.{ℕ, _+_, _/_, _<_, _≤_}
 use lib.Bits.{bitXor}
 use lib.IntN.{ℤ, pos, _+ℤ_}
@@ -11,13 +11,14 @@ use lib.ListN.{length, drop}
 use lib.Signed.{_<ℤ_}
 use Rattle.galois.specs.Words.{at}
 use Rattle.generator.specs.declared.State.{State}
-use Rattle.generator.specs.Registers.{registersOf}
+use Rattle.generator.specs.Registers.{EighteenWords, registersOf}
 use Rattle.strumok.specs.declared.Answer.{Answer}
-use Rattle.loading.specs.Loading.{sizeMark, registersAt}
-use Rattle.strumok.specs.Refusals.{limit, accepted, keyLength, ivLength, badSizeMark, positionAbove, targetShorter, windowPastEnd, newPositionAbove, newPositionBelow}
-use Rattle.strumok.specs.Opening.{blank, opened, Accepted}
+use Rattle.loading.specs.Loading.{Bytes, sizeMark, registersAt}
+use Rattle.strumok.specs.Refusals.{limit, accepted, keyLength, ivLength, badSizeMark, positionAbove, targetShorter, windowPastEnd, newPositionAbove, newPositionBelow, keyTargetLength, noKeyLeads}
+use Rattle.strumok.specs.Opening.{blank, opened, Accepted, Leads}
 use Rattle.strumok.specs.Moving.{newPosition, moved}
 use Rattle.strumok.specs.Applying.{keystreamByte, applied, appliedTarget, windowed, windowedBuffer}
+use Rattle.strumok.specs.Checking.{checked, checkedTarget}
 
 -- ---- 1. Refusals
 
@@ -60,6 +61,19 @@ windowLines s buffer start count =
     ∷ record { number = newPositionAbove; When = limit < s .position + count }
     ∷ []
 
+-- "checking 2, 3, 4, 9, 10": those before 10
+abbrev pub outerLines : (s : State) (iv target : List ℕ) → List Line
+outerLines s iv target =
+    record { number = ivLength; When = length iv ≡ 32 → ⊥ }
+    ∷ record { number = badSizeMark; When = (s .size ≡ 256 → ⊥) × (s .size ≡ 512 → ⊥) }
+    ∷ record { number = positionAbove; When = limit < s .position }
+    ∷ record { number = keyTargetLength; When = length target ≡ s .size / 8 → ⊥ }
+    ∷ []
+
+-- and 10: "no key of that size with that IV leads to this state"
+abbrev pub checkingLines : (s : State) (iv target : List ℕ) → List Line
+checkingLines s iv target = outerLines s iv target ++ (record { number = noKeyLeads; When = (key : List ℕ) → Leads key iv s → ⊥ } ∷ [])
+
 -- "The lowest number that applies is returned, and otherwise 0": n is the number of the first line that applies, and 0 where none does
 abbrev pub Returned : ℕ → List Line → Type 0
 Returned n [] = n ≡ accepted
@@ -82,6 +96,7 @@ WritesNothing a held left = (a .number ≡ accepted → ⊥) → left ≡ held
 
 -- "What 01's table names is refused, with its number, the state given back as it came (opening: a blank one), nothing written. All else is
 -- accepted": for every key, IV, state, distance, source, target, buffer, start and count. Opening and moving are lent nothing to write.
+-- The check is of a state whose registers are any eighteen words, against an IV of any bytes.
 pub record Refusals : Type 0 where
   pub opening : (key iv : List ℕ) → RefusesExactly (opened key iv) (openingLines key iv) blank
   pub moving : (s : State) (distance : ℤ) → RefusesExactly (moved s distance) (movingLines s distance) s
@@ -92,6 +107,9 @@ pub record Refusals : Type 0 where
       (s : State) (buffer : List ℕ) (start count : ℕ)
       → RefusesExactly (windowed s buffer start count) (windowLines s buffer start count) s
       × WritesNothing (windowed s buffer start count) buffer (windowedBuffer s buffer start count)
+  pub checking :
+      (s : State) (iv target : List ℕ) → EighteenWords (registersOf s) → Bytes iv
+      → RefusesExactly (checked s iv target) (checkingLines s iv target) s × WritesNothing (checked s iv target) target (checkedTarget s iv target)
 
 -- ---- 2. Keystream
 
@@ -100,17 +118,20 @@ pub data Call : Type 0 where
   portion : (source target : List ℕ) → Call
   window : (buffer : List ℕ) (start count : ℕ) → Call
   move : (distance : ℤ) → Call
+  check : (iv target : List ℕ) → Call
 
 abbrev pub answerTo : State → Call → Answer
 answerTo s (portion source target) = applied s source target
 answerTo s (window buffer start count) = windowed s buffer start count
 answerTo s (move distance) = moved s distance
+answerTo s (check iv target) = checked s iv target
 
 -- the bytes that a call counts
 abbrev pub countOf : Call → ℤ
 countOf (portion source target) = pos (length source)
 countOf (window buffer start count) = pos count
 countOf (move distance) = distance
+countOf (check iv target) = pos 0
 
 -- the state after a chain of calls, whether each was accepted where it stood, and the sum of their counts
 abbrev pub after : State → List Call → State
@@ -158,8 +179,30 @@ Keystream = (key iv : List ℕ) (calls : List Call) (s : State) → Reached key 
 
 -- ---- 3. Stored states
 
+-- the check of a state against an IV, where none of 2, 3, 4 and 9 applies
+pub record Stored (s : State) (iv target : List ℕ) : Type 0 where
+  -- "accepted for an IV exactly when some key of its size that opening accepts with that IV leads to that very state"
+  pub accepts : (key : List ℕ) → Leads key iv s → checked s iv target .number ≡ accepted
+  pub accepts-only : checked s iv target .number ≡ accepted → (key : List ℕ) × Leads key iv s
+  -- "that key is the only one and is handed back"
+  pub only-one : (key key′ : List ℕ) → Leads key iv s → Leads key′ iv s → key ≡ key′
+  pub handed-back : (key : List ℕ) → Leads key iv s → checkedTarget s iv target ≡ key
+  -- "else 10, and the target keeps its bytes"
+  pub refuses : ((key : List ℕ) → Leads key iv s → ⊥) → (checked s iv target .number ≡ noKeyLeads) × (checkedTarget s iv target ≡ target)
+
 -- "For every number of steps, two accepted 256-bit openings that differ in key or IV hold different registers."
 abbrev pub OpeningsDiffer : Type 0
 OpeningsDiffer =
     (key iv key′ iv′ : List ℕ) → Accepted key iv → Accepted key′ iv′ → sizeMark key ≡ 256 → sizeMark key′ ≡ 256
     → ((key ≡ key′) × (iv ≡ iv′) → ⊥) → (n : ℕ) → registersAt key iv n ≡ registersAt key′ iv′ n → ⊥
+
+pub record StoredStates : Type 0 where
+  -- "Whatever its registers hold": any eighteen words. The IV is any bytes.
+  pub checking : (s : State) (iv target : List ℕ) → EighteenWords (registersOf s) → Bytes iv → NoneApplies (outerLines s iv target) → Stored s iv target
+  -- the state comes back as it came, accepted or not
+  pub unaltered : (s : State) (iv target : List ℕ) → checked s iv target .state ≡ s
+  -- a state that opening and a chain of accepted calls made is accepted with its IV, and its key is handed back
+  pub reached :
+      (key iv : List ℕ) (calls : List Call) (s : State) (target : List ℕ) → Reached key iv calls s → length target ≡ length key
+      → (checked s iv target ≡ record { number = accepted; state = s }) × (checkedTarget s iv target ≡ key)
+  pub openings-differ : OpeningsDiffer

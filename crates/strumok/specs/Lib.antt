@@ -3,6 +3,7 @@ pub mod Refusals
 pub mod Opening
 pub mod Moving
 pub mod Applying
+pub mod Checking
 pub mod Functions
 pub mod MovingLaws
 pub mod ApplyingLaws

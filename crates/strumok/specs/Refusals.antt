@@ -3,7 +3,7 @@
 use mathlib.Core.Path.{_≡_}
 use mathlib.Core.Bool.{Bool, cond, not, _||_}
 use mathlib.Core.List.{List, [], _∷_}
-use Prim.Native.Nat.{ℕ, _+_}
+use Prim.Native.Nat.{ℕ, _+_, _/_}
 use lib.Dec.{eqb, ltb}
 use lib.IntN.{ℤ, pos}
 use lib.ListN.{length}
@@ -51,6 +51,14 @@ newPositionAbove = 7
 abbrev pub newPositionBelow : ℕ
 newPositionBelow = 8
 
+-- | 9 | key target length not size mark / 8 |
+abbrev pub keyTargetLength : ℕ
+keyTargetLength = 9
+
+-- | 10 | no key of that size with that IV leads to this state |
+abbrev pub noKeyLeads : ℕ
+noKeyLeads = 10
+
 -- a number, and whether what it stands for is the case
 pub record Test : Type 0 where
   pub number : ℕ
@@ -82,6 +90,10 @@ newPositionAboveTest to = record { number = newPositionAbove; applies = ltZ (pos
 
 abbrev pub newPositionBelowTest : ℤ → Test
 newPositionBelowTest to = record { number = newPositionBelow; applies = ltZ to (pos 0) }
+
+-- for a key target of len bytes
+abbrev pub keyTargetTest : State → (len : ℕ) → Test
+keyTargetTest s len = record { number = keyTargetLength; applies = not (eqb len (s .size / 8)) }
 
 -- 3 and 4, the tests of a state
 abbrev pub stateTests : State → List Test

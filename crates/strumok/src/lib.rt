@@ -1,11 +1,14 @@
-// The cipher's calls: opening a state from key and IV, moving it, and applying its keystream from a source to a target or over a window.
+// The cipher's calls: opening a state from key and IV, moving it, applying its keystream from a source to a target or over a window, and
+// checking a stored state against an IV.
 mod applying;
+mod checking;
 mod moving;
 mod opening;
 pub mod refusals;
 
 pub use applying::apply;
 pub use applying::window;
+pub use checking::check;
 pub use moving::move_by;
 pub use opening::open;
 ghost use mathlib.Core.Path.{_≡_};

@@ -29,3 +29,9 @@ pub const NEW_POSITION_ABOVE: u64 = 7;
 
 // The new position would be below 0.
 pub const NEW_POSITION_BELOW: u64 = 8;
+
+// The length of the key target is not an eighth of the size mark.
+pub const KEY_TARGET_LENGTH: u64 = 9;
+
+// No key of that size with that IV leads to this state.
+pub const NO_KEY_LEADS: u64 = 10;

@@ -1,0 +1,164 @@
+-- What the check of a stored state answers: whether a key leads to it, and which.
+-- Assumes nothing.
+use mathlib.Core.Path.{_≡_, refl, sym, ap, ap₂, _∙_}
+use mathlib.Core.Logic.{_⊎_, inl, inr}
+use mathlib.Core.Bool.{Bool, true, false, true≢false, cond, not}
+use mathlib.Core.List.{List, [], _∷_}
+use Prim.Native.Nat.{ℕ, _*_, _/_}
+use native.Mathlib.Omega.{arith}
+use borrow.Author.Tests.{eqb-true, not-true, not-false}
+use lib.Dec.{eqb}
+use lib.ListN.{length}
+use Rattle.generator.specs.declared.State.{State}
+use Rattle.generator.specs.declared.Kind.the-variants.{Ordinary}
+use Rattle.generator.specs.Registers.{Registers, EighteenWords, registersOf, next, iterate}
+use Rattle.loading.specs.Loading.{Bytes, sizeMark, load, initialised, registersAt}
+use Rattle.loading.specs.Recovery.{loadedFrom, recoveredKey}
+use Rattle.loading.proofs.LoadingLaws.{loading-laws}
+use Rattle.strumok.specs.Refusals.{accepted, noKeyLeads, limit, returned}
+use Rattle.strumok.specs.Opening.{Accepted, Leads}
+use Rattle.strumok.specs.Checking.{loadedOf, keyOf, sameRegisters, noKeyLeadsTest, outerTests, checkingTests, checked, checkedTarget}
+use Rattle.strumok.specs.Demands.{Call, NoneApplies, Reached, outerLines, checkingLines, Stored}
+use Rattle.strumok.proofs.Tests.{one-of}
+use Rattle.strumok.proofs.Opened.{both-fit, key-and-iv}
+use Rattle.strumok.proofs.Lines.{Decides, DecideAll, first-line, none-applies, neither, is-not, above}
+use Rattle.strumok.proofs.Checks.{Checkable, all-fit, tests-checkable, checkable, registers-same, same-registers, decided}
+use Rattle.strumok.proofs.Chains.{reached-leads, reached-well-formed}
+
+-- whether the key that is recovered loads what the state was loaded with
+abbrev loadsAgain : State → List ℕ → Bool
+loadsAgain s iv = sameRegisters (load (keyOf s iv) iv) (loadedOf s)
+
+-- ---- a key that leads to the state is found
+
+module _ (s : State) (iv key : List ℕ) (l : Leads key iv s) where
+  loaded : loadedOf s ≡ load key iv
+  unfolding loadedOf registersAt
+  loaded = ap (loadedFrom (s .position / 8)) (l .registers) ∙ loading-laws .walk-back-undoes (s .position / 8) .undone (load key iv) (loading-laws .loads-words key iv (key-and-iv (l .opening)))
+
+  pub key-found : keyOf s iv ≡ key
+  unfolding keyOf
+  key-found =
+      let n : s .size / 8 ≡ length key = omega (arith, l .size) in
+      ap₂ (λ (n : ℕ) (r : Registers). recoveredKey n iv (r .cells)) n loaded ∙ loading-laws .recovers key iv (key-and-iv (l .opening))
+
+  loads-again : loadsAgain s iv ≡ true
+  loads-again = same-registers (load (keyOf s iv) iv) (loadedOf s) (ap (λ (k : List ℕ). load k iv) key-found ∙ sym loaded)
+
+-- ---- and a key that loads again leads to the state
+
+module _ (s : State) (iv : List ℕ) (words : EighteenWords (registersOf s)) (bytes : Bytes iv) {len : ℕ} (fits : Checkable s iv len) where
+  found-length : length (keyOf s iv) ≡ s .size / 8
+  unfolding keyOf
+  found-length = loading-laws .recovered-length (s .size / 8) iv (loadedOf s .cells)
+
+  found-bytes : Bytes (keyOf s iv)
+  unfolding keyOf
+  found-bytes = loading-laws .recovered-bytes (s .size / 8) iv (loadedOf s .cells)
+
+  found-opens : Accepted (keyOf s iv) iv
+  found-opens = record { key-bytes = found-bytes; iv-bytes = bytes; opens = both-fit (keyOf s iv) iv (by (fits .size)) (fits .iv-length) }
+    where
+      by : (s .size ≡ 256) ⊎ (s .size ≡ 512) → (length (keyOf s iv) ≡ 32) ⊎ (length (keyOf s iv) ≡ 64)
+      by (inl e) = inl (found-length ∙ rw e)
+      by (inr e) = inr (found-length ∙ rw e)
+
+  found-size : s .size ≡ sizeMark (keyOf s iv)
+  found-size = by (fits .size)
+    where
+      by : (s .size ≡ 256) ⊎ (s .size ≡ 512) → s .size ≡ sizeMark (keyOf s iv)
+      by (inl e) = omega (arith, found-length)
+      by (inr e) = omega (arith, found-length)
+
+  found-leads : loadsAgain s iv ≡ true → Leads (keyOf s iv) iv s
+  unfolding loadedOf registersAt
+  found-leads e =
+      let n = s .position / 8 in
+      record {
+        opening = found-opens;
+        size = found-size;
+        registers = sym (ap (λ (r : Registers). iterate (next Ordinary) n (initialised r)) (registers-same (load (keyOf s iv) iv) (loadedOf s) e) ∙ loading-laws .walk-back-undone n .undone (registersOf s) words);
+      }
+
+  -- so test 10 computes whether line 10 applies
+  decides-10 : Decides (noKeyLeadsTest s iv) (record { number = noKeyLeads; When = (key : List ℕ) → Leads key iv s → ⊥ })
+  decides-10 =
+      record {
+        number = refl;
+        yes = λ e key l. true≢false (sym (loads-again s iv key l) ∙ not-true (loadsAgain s iv) e);
+        no = λ e none. none (keyOf s iv) (found-leads (not-false (loadsAgain s iv) e));
+      }
+
+-- ---- the lines of checking
+
+module _ (s : State) (iv target : List ℕ) where
+  outer-decided : DecideAll (outerTests s iv (length target)) (outerLines s iv target)
+  outer-decided = (is-not 2 (length iv) 32, λ t2. (neither 3 (s .size) 256 512, λ t3. (above 4 limit (s .position), λ t4. (is-not 9 (length target) (s .size / 8), λ t9. tt))))
+
+  pub outer-accepts : NoneApplies (outerLines s iv target) → returned (outerTests s iv (length target)) ≡ accepted
+  outer-accepts = none-applies (returned (outerTests s iv (length target))) (outerLines s iv target) (first-line (outerTests s iv (length target)) (outerLines s iv target) outer-decided)
+
+  pub unaltered : checked s iv target .state ≡ s
+  unaltered = by (eqb (returned (checkingTests s iv (length target))) accepted)
+    where
+      by : (b : Bool) → cond b s s ≡ s
+      by true = refl
+      by false = refl
+
+  module _ (words : EighteenWords (registersOf s)) (bytes : Bytes iv) where
+    pub checking-decided : DecideAll (checkingTests s iv (length target)) (checkingLines s iv target)
+    checking-decided = (
+      is-not 2 (length iv) 32,
+      λ t2. (
+        neither 3 (s .size) 256 512,
+        λ t3. (
+          above 4 limit (s .position),
+          λ t4. (
+            is-not 9 (length target) (s .size / 8),
+            λ t9.
+                (decides-10 s iv words bytes (tests-checkable s iv (length target) t2 t3 t9), λ t10. tt),
+          ),
+        ),
+      ),
+    )
+
+-- ---- the demand
+
+module _ (s : State) (iv target : List ℕ) (passed : returned (outerTests s iv (length target)) ≡ accepted) where
+  -- by what the comparison says, the number and the target
+  number-by : (b : Bool) → loadsAgain s iv ≡ b → checked s iv target .number ≡ cond (not b) noKeyLeads accepted
+  number-by b e = decided s iv target passed e
+
+  pub leads-accepted : (key : List ℕ) → Leads key iv s → (checked s iv target .number ≡ accepted) × (checkedTarget s iv target ≡ key)
+  leads-accepted key l = let zero = number-by true (loads-again s iv key l) in (zero, rw zero (key-found s iv key l))
+
+pub stored : (s : State) (iv target : List ℕ) → EighteenWords (registersOf s) → Bytes iv → NoneApplies (outerLines s iv target) → Stored s iv target
+stored s iv target words bytes none =
+    record {
+      accepts = λ key l. leads-accepted s iv target passed key l .0;
+      accepts-only = accepts-only (loadsAgain s iv) refl;
+      only-one = λ key key′ l l′. sym (key-found s iv key l) ∙ key-found s iv key′ l′;
+      handed-back = λ key l. leads-accepted s iv target passed key l .1;
+      refuses = refuses (loadsAgain s iv) refl;
+    }
+  where
+    passed : returned (outerTests s iv (length target)) ≡ accepted
+    passed = outer-accepts s iv target none
+
+    led : loadsAgain s iv ≡ true → Leads (keyOf s iv) iv s
+    led = found-leads s iv words bytes (checkable s iv (length target) passed)
+
+    accepts-only : (b : Bool) → loadsAgain s iv ≡ b → checked s iv target .number ≡ accepted → (key : List ℕ) × Leads key iv s
+    accepts-only true e z = (keyOf s iv, led e)
+    accepts-only false e z = absurd (omega (arith, z, number-by s iv target passed false e))
+
+    refuses : (b : Bool) → loadsAgain s iv ≡ b → ((key : List ℕ) → Leads key iv s → ⊥) → (checked s iv target .number ≡ noKeyLeads) × (checkedTarget s iv target ≡ target)
+    refuses true e no-key = absurd (no-key (keyOf s iv) (led e))
+    refuses false e no-key = let ten = number-by s iv target passed false e in (ten, rw ten)
+
+pub reached-accepted : (key iv : List ℕ) (calls : List Call) (s : State) (target : List ℕ) → Reached key iv calls s → length target ≡ length key → (checked s iv target ≡ record { number = accepted; state = s }) × (checkedTarget s iv target ≡ key)
+reached-accepted key iv calls s target r e =
+    let l = reached-leads r in
+    let n : length target ≡ s .size / 8 = omega (arith, l .size) in
+    let both = leads-accepted s iv target (all-fit s iv (length target) (key-and-iv (l .opening) .iv-length) (reached-well-formed r) n) key l in
+    (ap₂ (λ (k : ℕ) (x : State). record { number = k; state = x }) (both .0) (unaltered s iv target), both .1)
