@@ -4,3 +4,4 @@ pub mod Sums
 pub mod Round
 pub mod Iterate
 pub mod GeneratorLaws
+pub mod Owned

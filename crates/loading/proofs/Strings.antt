@@ -13,7 +13,7 @@ use Rattle.galois.specs.Words.{byte, tabulate, at}
 use Rattle.galois.proofs.Bytes.{tabulate-at, tabulate-length, byte-lt, byte-word, word-lt}
 use Rattle.galois.proofs.Spread.{tabulate-ext}
 use Rattle.loading.specs.Loading.{Bytes, wordOf}
-use Rattle.loading.specs.Recovery.{stringOf}
+use Rattle.loading.specs.Recovery.{stringByte, stringOf}
 
 -- ---- the string from its end
 
@@ -73,36 +73,32 @@ byte-of-word l h k =
 -- ---- the string of words
 
 module _ (n : ℕ) (k : ℕ → ℕ) where
-  -- byte p from the end
-  abbrev byteFromEnd : ℕ → ℕ
-  byteFromEnd p = byte (k (p / 8)) (p % 8)
-
   pub stringOf-length : length (stringOf n k) ≡ n
   unfolding stringOf
-  stringOf-length = length-reverse (tabulate n byteFromEnd) ∙ tabulate-length n byteFromEnd
+  stringOf-length = length-reverse (tabulate n (stringByte k)) ∙ tabulate-length n (stringByte k)
 
-  pub stringOf-at : (p : ℕ) → p < n → at (stringOf n k) p ≡ byteFromEnd (n - 1 - p)
+  pub stringOf-at : (p : ℕ) → p < n → at (stringOf n k) p ≡ stringByte k (n - 1 - p)
   unfolding stringOf
   stringOf-at p h =
-      reverse-at (tabulate n byteFromEnd) p (rw (tabulate-length n byteFromEnd) h)
-      ∙ ap (λ (m : ℕ). at (tabulate n byteFromEnd) (m - 1 - p)) (tabulate-length n byteFromEnd)
-      ∙ tabulate-at 0 n byteFromEnd (n - 1 - p) (omega arith)
+      reverse-at (tabulate n (stringByte k)) p (rw (tabulate-length n (stringByte k)) h)
+      ∙ ap (λ (m : ℕ). at (tabulate n (stringByte k)) (m - 1 - p)) (tabulate-length n (stringByte k))
+      ∙ tabulate-at 0 n (stringByte k) (n - 1 - p) (omega arith)
 
   pub stringOf-bytes : Bytes (stringOf n k)
   unfolding stringOf
-  stringOf-bytes = bytes-from-end (tabulate n byteFromEnd) (tabulate-lt (lit< tt) n byteFromEnd (λ p. byte-lt (k (p / 8)) (p % 8)))
+  stringOf-bytes = bytes-from-end (tabulate n (stringByte k)) (tabulate-lt (lit< tt) n (stringByte k) (λ p. byte-lt _ _))
 
 -- it depends on the words that begin in it
 pub stringOf-ext : (n : ℕ) (k k′ : ℕ → ℕ) → ((i : ℕ) → 8 * i < n → k i ≡ k′ i) → stringOf n k ≡ stringOf n k′
 unfolding stringOf
 stringOf-ext n k k′ h =
-    ap reverse (tabulate-ext n (byteFromEnd n k) (byteFromEnd n k′) (λ p l. ap (λ (w : ℕ). byte w (p % 8)) (h (p / 8) (omega arith))))
+    ap reverse (tabulate-ext n (stringByte k) (stringByte k′) (λ p l. ap (λ (w : ℕ). byte w (p % 8)) (h (p / 8) (omega arith))))
 
 -- a string is that of its words
 pub stringOf-wordOf : (l : List ℕ) → Bytes l → stringOf (length l) (wordOf l) ≡ l
 unfolding stringOf
 stringOf-wordOf l h =
-    let f = byteFromEnd (length l) (wordOf l) in
+    let f = stringByte (wordOf l) in
     let long = tabulate-length (length l) f in
     let bytes : tabulate (length l) f ≡ reverse l =
     ext-getD 0 (tabulate (length l) f) (reverse l) (long ∙ sym (length-reverse l)) (λ p lt. tabulate-at 0 (length l) f p (omega (arith, long)) ∙ sym (byte-of-word l h p)) in

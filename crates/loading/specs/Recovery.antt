@@ -33,10 +33,14 @@ abbrev pub recoveredWord : List Row → (v : ℕ → ℕ) (cells : List ℕ) →
 recoveredWord [] v cells i = 0
 recoveredWord (row ∷ rows) v cells i = cond (eqb (keyIndex row) i) (keyWordIn v row (at cells (length rows))) (recoveredWord rows v cells i)
 
--- "Key bytes hold the highest word first (K3 or K7), each word most significant byte first": n bytes, of the words k.
--- So the string read from its end has the bytes of word 0, then those of word 1, and so on, each word's byte 0 first.
+-- "Key bytes hold the highest word first (K3 or K7), each word most significant byte first": so a string of the words k, read from its end,
+-- has the bytes of word 0, then those of word 1, and so on, each word's byte 0 first. This is byte p of it, read so,
+abbrev pub stringByte : (k : ℕ → ℕ) (p : ℕ) → ℕ
+stringByte k p = byte (k (p / 8)) (p % 8)
+
+-- and the string, where it has n bytes
 unfoldable pub stringOf : (n : ℕ) (k : ℕ → ℕ) → List ℕ
-stringOf n k = reverse (tabulate n (λ p. byte (k (p / 8)) (p % 8)))
+stringOf n k = reverse (tabulate n (stringByte k))
 
 -- the key of n bytes
 unfoldable pub recoveredKey : (n : ℕ) (iv cells : List ℕ) → List ℕ

@@ -16,7 +16,7 @@ use Rattle.generator.specs.Registers.{Registers, registersOf, stateOf, keystrea
 use Rattle.keystream.specs.Keystream.{byteAt, masked}
 use Rattle.keystream.proofs.Masked.{masked-length, masked-append, masked-ext, masked-drop, masked-masked}
 use Rattle.strumok.specs.declared.Answer.{Answer}
-use Rattle.strumok.specs.Refusals.{Test, limit, accepted, targetTest, windowTest, returned, WellFormed, answer, written}
+use Rattle.strumok.specs.Refusals.{Test, limit, accepted, targetTest, windowTest, returned, WellFormed}
 use Rattle.strumok.specs.Opening.{Leads}
 use Rattle.strumok.specs.Moving.{movedTo, moved}
 use Rattle.strumok.specs.Applying.{keystreamByte, keystreamByteOf, withKeystream, advancingTests, applyingTests, applied, appliedTarget, windowTests, windowed, windowedBuffer}

@@ -18,30 +18,30 @@ use Rattle.loading.specs.Recovery.{recoveredKey}
 use Rattle.loading.proofs.LoadingLaws.{loading-laws}
 use Rattle.strumok.specs.declared.Answer.{Answer}
 use Rattle.strumok.specs.Refusals.{Test, accepted, ivLength, keyTargetLength, noKeyLeads, ivLengthTest, sizeMarkTest, positionTest, keyTargetTest, stateTests, returned, WellFormed}
-use Rattle.strumok.specs.Checking.{loadedOf, keyOf, sameWords, sameRegisters, noKeyLeadsTest, outerTests, checkingTests, checked, checkedTarget}
+use Rattle.strumok.specs.Checking.{loadedOf, keyOf, sameWords, sameRegisters, noKeyLeadsTest, testsBefore10, checkingTests, checked, checkedTarget}
 use Rattle.strumok.proofs.Tests.{is-one-of, returned-first, returned-rest, returned-none, answer-refused, answer-accepted, written-refused, written-accepted}
 
 -- ---- the tests that ask nothing of the registers
 
 module _ (s : State) (iv : List ℕ) (len : ℕ) where
-  pub iv-misfit : (length iv ≡ 32 → ⊥) → returned (outerTests s iv len) ≡ ivLength
+  pub iv-misfit : (length iv ≡ 32 → ⊥) → returned (testsBefore10 s iv len) ≡ ivLength
   iv-misfit h = rw (ne-eqb (length iv) 32 h)
 
   module _ (l : length iv ≡ 32) where
-    past-iv : returned (outerTests s iv len) ≡ returned (stateTests s ++ (keyTargetTest s len ∷ []))
+    past-iv : returned (testsBefore10 s iv len) ≡ returned (stateTests s ++ (keyTargetTest s len ∷ []))
     past-iv = rw l
 
-    pub stored-ill-formed : (returned (stateTests s) ≡ accepted → ⊥) → returned (outerTests s iv len) ≡ returned (stateTests s)
+    pub stored-ill-formed : (returned (stateTests s) ≡ accepted → ⊥) → returned (testsBefore10 s iv len) ≡ returned (stateTests s)
     stored-ill-formed h = past-iv ∙ returned-first (stateTests s) (keyTargetTest s len ∷ []) h
 
     module _ (ok : WellFormed s) where
-      past-state : returned (outerTests s iv len) ≡ returned (keyTargetTest s len ∷ [])
+      past-state : returned (testsBefore10 s iv len) ≡ returned (keyTargetTest s len ∷ [])
       past-state = past-iv ∙ returned-rest (stateTests s) (keyTargetTest s len ∷ []) tt ok
 
-      pub target-misfit : (len ≡ s .size / 8 → ⊥) → returned (outerTests s iv len) ≡ keyTargetLength
+      pub target-misfit : (len ≡ s .size / 8 → ⊥) → returned (testsBefore10 s iv len) ≡ keyTargetLength
       target-misfit h = past-state ∙ rw (ne-eqb len (s .size / 8) h)
 
-      pub all-fit : len ≡ s .size / 8 → returned (outerTests s iv len) ≡ accepted
+      pub all-fit : len ≡ s .size / 8 → returned (testsBefore10 s iv len) ≡ accepted
       all-fit e = past-state ∙ rw (eq-eqb len (s .size / 8) e)
 
 -- where none of them applies
@@ -58,7 +58,7 @@ tests-checkable s iv len two three nine =
       target-length = eqb-true len (s .size / 8) (not-false (eqb len (s .size / 8)) nine);
     }
 
-pub checkable : (s : State) (iv : List ℕ) (len : ℕ) → returned (outerTests s iv len) ≡ accepted → Checkable s iv len
+pub checkable : (s : State) (iv : List ℕ) (len : ℕ) → returned (testsBefore10 s iv len) ≡ accepted → Checkable s iv len
 checkable s iv len e =
     let two = returned-none (ivLengthTest iv) (stateTests s ++ (keyTargetTest s len ∷ [])) tt e in
     let three = returned-none (sizeMarkTest s) (positionTest s ∷ keyTargetTest s len ∷ []) tt (two .1) in
@@ -142,12 +142,12 @@ module _ (s : State) (iv target : List ℕ) where
   abbrev Left : Answer → List ℕ → Type 0
   Left r ys = (r ≡ checked s iv target) × (ys ≡ checkedTarget s iv target)
 
-  pub outer-refuses : {n : ℕ} → n ≡ returned (outerTests s iv (length target)) → (n ≡ accepted → ⊥) → Left (record { number = n; state = s }) target
-  outer-refuses e h =
-      let first = e ∙ sym (returned-first (outerTests s iv (length target)) (noKeyLeadsTest s iv ∷ []) (λ z. h (e ∙ z))) in
+  pub refused-before-10 : {n : ℕ} → n ≡ returned (testsBefore10 s iv (length target)) → (n ≡ accepted → ⊥) → Left (record { number = n; state = s }) target
+  refused-before-10 e h =
+      let first = e ∙ sym (returned-first (testsBefore10 s iv (length target)) (noKeyLeadsTest s iv ∷ []) (λ z. h (e ∙ z))) in
       (answer-refused tests s s first h, written-refused tests (keyOf s iv) target first h)
 
-  module _ (passed : returned (outerTests s iv (length target)) ≡ accepted) where
+  module _ (passed : returned (testsBefore10 s iv (length target)) ≡ accepted) where
     fits : Checkable s iv (length target)
     fits = checkable s iv (length target) passed
 
@@ -163,11 +163,11 @@ module _ (s : State) (iv target : List ℕ) where
     room-length = sym (length-take-le (length target) room target-le)
 
     pub decided : {b : Bool} → sameRegisters (load (keyOf s iv) iv) (loadedOf s) ≡ b → returned tests ≡ cond (not b) noKeyLeads accepted
-    decided e = returned-rest (outerTests s iv (length target)) (noKeyLeadsTest s iv ∷ []) tt passed ∙ rw e
+    decided e = returned-rest (testsBefore10 s iv (length target)) (noKeyLeadsTest s iv ∷ []) tt passed ∙ rw e
 
 -- past these tests, the state is walked back to t, and ys is the key that is recovered
 pub record Recovered (s : State) (iv target : List ℕ) (t : State) (ys : List ℕ) : Type 0 where
-  pub passed : returned (outerTests s iv (length target)) ≡ accepted
+  pub passed : returned (testsBefore10 s iv (length target)) ≡ accepted
   pub walked-back : t ≡ withRegisters s (loadedOf s)
   pub recovered : ys ≡ recoveredKey (length (take (length target) room)) iv (t .cells)
 

@@ -1,6 +1,6 @@
 -- The demands that specs/Demands.antt states.
 -- Assumes nothing.
-use Prim.Native.Nat.{_+_, _/_}
+use Prim.Native.Nat.{_+_}
 use lib.IntN.{pos}
 use lib.ListN.{length}
 use Rattle.strumok.specs.Refusals.{limit}
@@ -49,7 +49,7 @@ keystream key iv calls s r = keystream-at key iv calls s (reached-leads r) (reac
 
 -- ---- 3. Stored states
 
-openings-differ : OpeningsDiffer
+pub openings-differ : OpeningsDiffer
 openings-differ key iv key′ iv′ o o′ z z′ differ n e = differ (loading-laws .registers-one-to-one-in-both key iv key′ iv′ (key-and-iv o) (key-and-iv o′) z z′ n e)
 
 pub stored-states : StoredStates

@@ -3,10 +3,10 @@
 use mathlib.Core.Path.{_≡_, refl, sym, ap, ap₂, _∙_}
 use mathlib.Core.Logic.{_⊎_, inl, inr}
 use mathlib.Core.Bool.{Bool, true, false, true≢false, cond, not}
-use mathlib.Core.List.{List, [], _∷_}
-use Prim.Native.Nat.{ℕ, _*_, _/_}
+use mathlib.Core.List.{List}
+use Prim.Native.Nat.{ℕ, _/_}
 use native.Mathlib.Omega.{arith}
-use borrow.Author.Tests.{eqb-true, not-true, not-false}
+use borrow.Author.Tests.{not-true, not-false}
 use lib.Dec.{eqb}
 use lib.ListN.{length}
 use Rattle.generator.specs.declared.State.{State}
@@ -17,9 +17,8 @@ use Rattle.loading.specs.Recovery.{loadedFrom, recoveredKey}
 use Rattle.loading.proofs.LoadingLaws.{loading-laws}
 use Rattle.strumok.specs.Refusals.{accepted, noKeyLeads, limit, returned}
 use Rattle.strumok.specs.Opening.{Accepted, Leads}
-use Rattle.strumok.specs.Checking.{loadedOf, keyOf, sameRegisters, noKeyLeadsTest, outerTests, checkingTests, checked, checkedTarget}
-use Rattle.strumok.specs.Demands.{Call, NoneApplies, Reached, outerLines, checkingLines, Stored}
-use Rattle.strumok.proofs.Tests.{one-of}
+use Rattle.strumok.specs.Checking.{loadedOf, keyOf, sameRegisters, noKeyLeadsTest, testsBefore10, checkingTests, checked, checkedTarget}
+use Rattle.strumok.specs.Demands.{Call, NoneApplies, Reached, linesBefore10, checkingLines, Stored}
 use Rattle.strumok.proofs.Opened.{both-fit, key-and-iv}
 use Rattle.strumok.proofs.Lines.{Decides, DecideAll, first-line, none-applies, neither, is-not, above}
 use Rattle.strumok.proofs.Checks.{Checkable, all-fit, tests-checkable, checkable, registers-same, same-registers, decided}
@@ -92,11 +91,11 @@ module _ (s : State) (iv : List ℕ) (words : EighteenWords (registersOf s)) (by
 -- ---- the lines of checking
 
 module _ (s : State) (iv target : List ℕ) where
-  outer-decided : DecideAll (outerTests s iv (length target)) (outerLines s iv target)
-  outer-decided = (is-not 2 (length iv) 32, λ t2. (neither 3 (s .size) 256 512, λ t3. (above 4 limit (s .position), λ t4. (is-not 9 (length target) (s .size / 8), λ t9. tt))))
+  decided-before-10 : DecideAll (testsBefore10 s iv (length target)) (linesBefore10 s iv target)
+  decided-before-10 = (is-not 2 (length iv) 32, λ t2. (neither 3 (s .size) 256 512, λ t3. (above 4 limit (s .position), λ t4. (is-not 9 (length target) (s .size / 8), λ t9. tt))))
 
-  pub outer-accepts : NoneApplies (outerLines s iv target) → returned (outerTests s iv (length target)) ≡ accepted
-  outer-accepts = none-applies (returned (outerTests s iv (length target))) (outerLines s iv target) (first-line (outerTests s iv (length target)) (outerLines s iv target) outer-decided)
+  pub accepted-before-10 : NoneApplies (linesBefore10 s iv target) → returned (testsBefore10 s iv (length target)) ≡ accepted
+  accepted-before-10 = none-applies (returned (testsBefore10 s iv (length target))) (linesBefore10 s iv target) (first-line (testsBefore10 s iv (length target)) (linesBefore10 s iv target) decided-before-10)
 
   pub unaltered : checked s iv target .state ≡ s
   unaltered = by (eqb (returned (checkingTests s iv (length target))) accepted)
@@ -124,7 +123,7 @@ module _ (s : State) (iv target : List ℕ) where
 
 -- ---- the demand
 
-module _ (s : State) (iv target : List ℕ) (passed : returned (outerTests s iv (length target)) ≡ accepted) where
+module _ (s : State) (iv target : List ℕ) (passed : returned (testsBefore10 s iv (length target)) ≡ accepted) where
   -- by what the comparison says, the number and the target
   number-by : (b : Bool) → loadsAgain s iv ≡ b → checked s iv target .number ≡ cond (not b) noKeyLeads accepted
   number-by b e = decided s iv target passed e
@@ -132,7 +131,7 @@ module _ (s : State) (iv target : List ℕ) (passed : returned (outerTests s iv 
   pub leads-accepted : (key : List ℕ) → Leads key iv s → (checked s iv target .number ≡ accepted) × (checkedTarget s iv target ≡ key)
   leads-accepted key l = let zero = number-by true (loads-again s iv key l) in (zero, rw zero (key-found s iv key l))
 
-pub stored : (s : State) (iv target : List ℕ) → EighteenWords (registersOf s) → Bytes iv → NoneApplies (outerLines s iv target) → Stored s iv target
+pub stored : (s : State) (iv target : List ℕ) → EighteenWords (registersOf s) → Bytes iv → NoneApplies (linesBefore10 s iv target) → Stored s iv target
 stored s iv target words bytes none =
     record {
       accepts = λ key l. leads-accepted s iv target passed key l .0;
@@ -142,8 +141,8 @@ stored s iv target words bytes none =
       refuses = refuses (loadsAgain s iv) refl;
     }
   where
-    passed : returned (outerTests s iv (length target)) ≡ accepted
-    passed = outer-accepts s iv target none
+    passed : returned (testsBefore10 s iv (length target)) ≡ accepted
+    passed = accepted-before-10 s iv target none
 
     led : loadsAgain s iv ≡ true → Leads (keyOf s iv) iv s
     led = found-leads s iv words bytes (checkable s iv (length target) passed)

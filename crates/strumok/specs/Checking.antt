@@ -35,12 +35,12 @@ abbrev pub noKeyLeadsTest : State → (iv : List ℕ) → Test
 noKeyLeadsTest s iv = record { number = noKeyLeads; applies = not (sameRegisters (load (keyOf s iv) iv) (loadedOf s)) }
 
 -- 2, 3, 4 and 9, which ask nothing of the registers, for a key target of len bytes
-abbrev pub outerTests : State → (iv : List ℕ) (len : ℕ) → List Test
-outerTests s iv len = ivLengthTest iv ∷ (stateTests s ++ (keyTargetTest s len ∷ []))
+abbrev pub testsBefore10 : State → (iv : List ℕ) (len : ℕ) → List Test
+testsBefore10 s iv len = ivLengthTest iv ∷ (stateTests s ++ (keyTargetTest s len ∷ []))
 
 -- "checking 2, 3, 4, 9, 10"
 abbrev pub checkingTests : State → (iv : List ℕ) (len : ℕ) → List Test
-checkingTests s iv len = outerTests s iv len ++ (noKeyLeadsTest s iv ∷ [])
+checkingTests s iv len = testsBefore10 s iv len ++ (noKeyLeadsTest s iv ∷ [])
 
 -- "Acceptance .. gives the state back unaltered", and so does a refusal: the answer
 abbrev pub checked : State → (iv target : List ℕ) → Answer

@@ -62,8 +62,8 @@ windowLines s buffer start count =
     ∷ []
 
 -- "checking 2, 3, 4, 9, 10": those before 10
-abbrev pub outerLines : (s : State) (iv target : List ℕ) → List Line
-outerLines s iv target =
+abbrev pub linesBefore10 : (s : State) (iv target : List ℕ) → List Line
+linesBefore10 s iv target =
     record { number = ivLength; When = length iv ≡ 32 → ⊥ }
     ∷ record { number = badSizeMark; When = (s .size ≡ 256 → ⊥) × (s .size ≡ 512 → ⊥) }
     ∷ record { number = positionAbove; When = limit < s .position }
@@ -72,7 +72,7 @@ outerLines s iv target =
 
 -- and 10: "no key of that size with that IV leads to this state"
 abbrev pub checkingLines : (s : State) (iv target : List ℕ) → List Line
-checkingLines s iv target = outerLines s iv target ++ (record { number = noKeyLeads; When = (key : List ℕ) → Leads key iv s → ⊥ } ∷ [])
+checkingLines s iv target = linesBefore10 s iv target ++ (record { number = noKeyLeads; When = (key : List ℕ) → Leads key iv s → ⊥ } ∷ [])
 
 -- "The lowest number that applies is returned, and otherwise 0": n is the number of the first line that applies, and 0 where none does
 abbrev pub Returned : ℕ → List Line → Type 0
@@ -198,7 +198,7 @@ OpeningsDiffer =
 
 pub record StoredStates : Type 0 where
   -- "Whatever its registers hold": any eighteen words. The IV is any bytes.
-  pub checking : (s : State) (iv target : List ℕ) → EighteenWords (registersOf s) → Bytes iv → NoneApplies (outerLines s iv target) → Stored s iv target
+  pub checking : (s : State) (iv target : List ℕ) → EighteenWords (registersOf s) → Bytes iv → NoneApplies (linesBefore10 s iv target) → Stored s iv target
   -- the state comes back as it came, accepted or not
   pub unaltered : (s : State) (iv target : List ℕ) → checked s iv target .state ≡ s
   -- a state that opening and a chain of accepted calls made is accepted with its IV, and its key is handed back

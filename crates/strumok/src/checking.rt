@@ -3,7 +3,7 @@ ghost use mathlib.Core.Path.{_≡_};
 ghost use Rattle.generator.specs.Registers.{registersOf, withRegisters};
 ghost use Rattle.loading.specs.Loading.{load};
 ghost use Rattle.strumok.specs.Refusals.{returned};
-ghost use Rattle.strumok.specs.Checking.{loadedOf, sameWords, sameRegisters, outerTests, checked, checkedTarget};
+ghost use Rattle.strumok.specs.Checking.{loadedOf, sameWords, sameRegisters, testsBefore10, checked, checkedTarget};
 use crate::Answer;
 use crate::refusals;
 use crate::refused;
@@ -19,7 +19,7 @@ use substitution::pi_inverse_tables;
 
 // 2, 3, 4 or 9, in this order, for a key target of len bytes; else 0.
 fn checking_number(s: State, iv: &[u8], len: usize) -> u64
-    ensures { λ r. ⌜ r ≡ returned (outerTests s (now (iv .entry)) len) ⌝ }
+    ensures { λ r. ⌜ r ≡ returned (testsBefore10 s (now (iv .entry)) len) ⌝ }
 {
     if iv.len() != 32 {
         return refusals::IV_LENGTH;

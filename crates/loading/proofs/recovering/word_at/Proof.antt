@@ -1,7 +1,6 @@
 -- `loading::recovering::word_at` meets its contract.
 -- Assumes nothing.
 use mathlib.Core.Path.{_≡_, sym}
-use native.Mathlib.Omega.{arith}
 use borrow.Author.Needs.{needs}
 use lib.ListN.{length, List·getD-eq-default}
 use Rattle.loading.proofs.recovering.word_at.Statement.{statement}

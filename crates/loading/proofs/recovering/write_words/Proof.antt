@@ -1,17 +1,17 @@
 -- `loading::recovering::write_words` meets its contract: after p turns the first p bytes are those of the string.
 -- Assumes nothing.
-use mathlib.Core.Path.{_≡_, refl, sym, ap, ap₂, _∙_}
+use mathlib.Core.Path.{_≡_, refl, ap, _∙_}
 use Prim.Native.Nat.{ℕ, _+_, _-_, _%_, _≤_}
 use native.Mathlib.Omega.{arith}
 use borrow.Author.Needs.{needs}
 use lib.ListN.{length}
 use Rattle.galois.specs.Words.{byte, at}
-use Rattle.loading.proofs.Written.{partly, partly-more, partly-all, partly-length}
+use Rattle.loading.proofs.Filled.{filled, filled-more, filled-all, filled-length}
 use Rattle.loading.proofs.recovering.write_words.Statement.{statement}
 use Rattle.loading.proofs.recovering.write_words.Tie as tie
 
 abbrev Inv-loop : tie.InvT-loop
-Inv-loop words string₀ n p₀ string p = (string ≡ partly (at words) string₀ p) × ((p ≤ length string₀) × (length string ≡ length string₀))
+Inv-loop words string₀ n p₀ string p = (string ≡ filled (at words) string₀ p) × ((p ≤ length string₀) × (length string ≡ length string₀))
 
 abbrev μ-loop : tie.MeasureT-loop
 μ-loop words string₀ n p₀ string p = n - p
@@ -26,15 +26,15 @@ loop-again c =
     let a = w .before .before .before .args in
     let b = a .string .now in
     let word = ap (λ (x : ℕ). byte x ((length b - 1 - l .p) % 8)) (c .before .word-at .ensures) in
-    let more = partly-more (at (a .words)) b (l .p) (omega (arith, w, l .inv)) (l .inv .0) (c .byte-of .ensures ∙ word) in
+    let more = filled-more (at (a .words)) b (l .p) (omega (arith, w, l .inv)) (l .inv .0) (c .byte-of .ensures ∙ word) in
     let low : l .p + 1 ≤ length b = omega (arith, w, l .inv) in
-    (more, (low, ap length more ∙ partly-length (at (a .words)) b (l .p + 1) low))
+    (more, (low, ap length more ∙ filled-length (at (a .words)) b (l .p + 1) low))
 
 returns : tie.Need-returns Inv-loop μ-loop
 returns c =
     let l = c .before .loop in
     let a = c .before .before .before .args in
-    l .inv .0 ∙ partly-all (at (a .words)) (a .string .now) (l .p) (omega (arith, c, l .inv))
+    l .inv .0 ∙ filled-all (at (a .words)) (a .string .now) (l .p) (omega (arith, c, l .inv))
 
 pub write-words-spec : {M : Type 1} → statement M
 write-words-spec =

@@ -6,8 +6,8 @@ use native.Mathlib.Omega.{arith}
 use borrow.Author.Needs.{needs}
 use lib.ListN.{length}
 use Rattle.strumok.specs.Refusals.{accepted, returned}
-use Rattle.strumok.specs.Checking.{outerTests}
-use Rattle.strumok.proofs.Checks.{outer-refuses, target-le, room-length, Recovered, front-le, front-length, check-accepts, check-refuses}
+use Rattle.strumok.specs.Checking.{testsBefore10}
+use Rattle.strumok.proofs.Checks.{refused-before-10, target-le, room-length, Recovered, front-le, front-length, check-accepts, check-refuses}
 use Rattle.strumok.proofs.checking.check.Statement.{statement}
 use Rattle.strumok.proofs.checking.check.Tie as tie
 
@@ -15,11 +15,11 @@ returns : tie.Need-returns
 returns c =
     let k = c .before .before in
     let a = k .before .before .before .args in
-    let left = outer-refuses (a .s) (a .iv .now) (a .target .now) (k .checking-number .ensures) (c .before .if1 .taken) in
+    let left = refused-before-10 (a .s) (a .iv .now) (a .target .now) (k .checking-number .ensures) (c .before .if1 .taken) in
     (c .refused .ensures ∙ left .0, left .1)
 
 -- past the tests before 10
-ok : (c : tie.Else1) → let a = c .before .before .before .before .args in returned (outerTests (a .s) (a .iv .now) (length (a .target .now))) ≡ accepted
+ok : (c : tie.Else1) → let a = c .before .before .before .before .args in returned (testsBefore10 (a .s) (a .iv .now) (length (a .target .now))) ≡ accepted
 ok c = sym (c .before .checking-number .ensures) ∙ c .if1 .left
 
 array-borrow-prefix-key : tie.Need-array-borrow-prefix-key

@@ -1,6 +1,6 @@
 -- `strumok::checking::walk_to_loading` meets its contract: the tables are those of T inverted and of α inverse.
 -- Assumes nothing.
-use mathlib.Core.Path.{ap, _∙_}
+use mathlib.Core.Path.{_≡_, ap, _∙_}
 use Prim.Native.Nat.{_+_, _/_}
 use borrow.Author.Needs.{needs}
 use Rattle.generator.specs.declared.Kind.the-variants.{Ordinary, Initial}
@@ -18,10 +18,11 @@ returns c =
     let i = o .before .before .before .before .before in
     let b = i .before in
     let m = b .before in
-    let s = m .before .args .s in
     let by = backward-by-tables (m .matrix-inverse-tables .ensures) (b .pi-inverse-tables .ensures) (i .alpha-inverse-table .ensures) in
-    c .backward2 .ensures ∙ by Initial 32 (o .backward .result)
-    ∙ ap (walked (previous Initial) 32) (o .backward .ensures ∙ by Ordinary (s .position / 8 + 1) s)
+    let s = m .before .args .s in
+    let ordinary : o .backward .result ≡ walked (previous Ordinary) (s .position / 8 + 1) s = o .backward .ensures ∙ by Ordinary (s .position / 8 + 1) s in
+    let initial : c .backward2 .result ≡ walked (previous Initial) 32 (o .backward .result) = c .backward2 .ensures ∙ by Initial 32 (o .backward .result) in
+    initial ∙ ap (walked (previous Initial) 32) ordinary
 
 pub walk-to-loading-spec : {M : Type 1} → statement M
 walk-to-loading-spec =
