@@ -42,6 +42,6 @@ stringByte k p = byte (k (p / 8)) (p % 8)
 unfoldable pub stringOf : (n : ℕ) (k : ℕ → ℕ) → List ℕ
 stringOf n k = reverse (tabulate n (stringByte k))
 
--- the key of n bytes
+-- the key of n bytes that the cells give with that IV
 unfoldable pub recoveredKey : (n : ℕ) (iv cells : List ℕ) → List ℕ
 recoveredKey n iv cells = stringOf n (recoveredWord (rowsOf (8 * n)) (wordOf iv) cells)

@@ -1,4 +1,4 @@
-// The key that sixteen cells give under an IV.
+// The key that sixteen cells give with an IV.
 ghost use mathlib.Core.Path.{_≡_};
 ghost use Prim.Native.Nat.{_*_};
 ghost use lib.ListN.{length};
@@ -9,7 +9,7 @@ use crate::ONES;
 use crate::four_words;
 use galois::byte_of;
 
-// The key words of n bytes that these cells give, s0 first, under the IV words v; 0 where the key has no such word.
+// The words of the key of n bytes that these cells give, s0 first, with the IV words v; 0 past its last.
 fn key_words(n: usize, c: [u64; 16], v: [u64; 4]) -> [u64; 8]
     ensures { λ r. ⌜ r ≡ tabulate 8 (recoveredWord (rowsOf (8 * n)) (at v) c) ⌝ }
 {
@@ -52,7 +52,7 @@ fn write_words(words: [u64; 8], string: &mut [u8])
     }
 }
 
-// The key of as many bytes as are lent.
+// The key that these cells give with the IV, of as many bytes as are lent for it.
 pub fn recover_key(cells: [u64; 16], iv: &[u8], key: &mut [u8])
     ensures { λ _. ⌜ now (key .exit) ≡ recoveredKey (length (now (key .entry))) (now (iv .entry)) cells ⌝ }
 {

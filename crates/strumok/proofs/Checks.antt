@@ -18,7 +18,7 @@ use Rattle.loading.specs.Recovery.{recoveredKey}
 use Rattle.loading.proofs.LoadingLaws.{loading-laws}
 use Rattle.strumok.specs.declared.Answer.{Answer}
 use Rattle.strumok.specs.Refusals.{Test, accepted, ivLength, keyTargetLength, noKeyLeads, ivLengthTest, sizeMarkTest, positionTest, keyTargetTest, stateTests, returned, WellFormed}
-use Rattle.strumok.specs.Checking.{loadedOf, keyOf, sameWords, sameRegisters, noKeyLeadsTest, testsBefore10, checkingTests, checked, checkedTarget}
+use Rattle.strumok.specs.Checking.{loadedOf, keyOf, sameWords, sameRegisters, loadsAgain, noKeyLeadsTest, testsBefore10, checkingTests, checked, checkedTarget}
 use Rattle.strumok.proofs.Tests.{is-one-of, returned-first, returned-rest, returned-none, answer-refused, answer-accepted, written-refused, written-accepted}
 
 -- ---- the tests that ask nothing of the registers
@@ -50,21 +50,17 @@ pub record Checkable (s : State) (iv : List ℕ) (len : ℕ) : Type 0 where
   pub size : (s .size ≡ 256) ⊎ (s .size ≡ 512)
   pub target-length : len ≡ s .size / 8
 
-pub tests-checkable : (s : State) (iv : List ℕ) (len : ℕ) → ivLengthTest iv .applies ≡ false → sizeMarkTest s .applies ≡ false → keyTargetTest s len .applies ≡ false → Checkable s iv len
-tests-checkable s iv len two three nine =
-    record {
-      iv-length = eqb-true (length iv) 32 (not-false (eqb (length iv) 32) two);
-      size = is-one-of (s .size) 256 512 three;
-      target-length = eqb-true len (s .size / 8) (not-false (eqb len (s .size / 8)) nine);
-    }
-
 pub checkable : (s : State) (iv : List ℕ) (len : ℕ) → returned (testsBefore10 s iv len) ≡ accepted → Checkable s iv len
 checkable s iv len e =
     let two = returned-none (ivLengthTest iv) (stateTests s ++ (keyTargetTest s len ∷ [])) tt e in
     let three = returned-none (sizeMarkTest s) (positionTest s ∷ keyTargetTest s len ∷ []) tt (two .1) in
     let four = returned-none (positionTest s) (keyTargetTest s len ∷ []) tt (three .1) in
     let nine = returned-none (keyTargetTest s len) [] tt (four .1) in
-    tests-checkable s iv len (two .0) (three .0) (nine .0)
+    record {
+      iv-length = eqb-true (length iv) 32 (not-false (eqb (length iv) 32) (two .0));
+      size = is-one-of (s .size) 256 512 (three .0);
+      target-length = eqb-true len (s .size / 8) (not-false (eqb len (s .size / 8)) (nine .0));
+    }
 
 -- ---- the comparison
 
@@ -162,7 +158,8 @@ module _ (s : State) (iv target : List ℕ) where
     pub room-length : length target ≡ length (take (length target) room)
     room-length = sym (length-take-le (length target) room target-le)
 
-    pub decided : {b : Bool} → sameRegisters (load (keyOf s iv) iv) (loadedOf s) ≡ b → returned tests ≡ cond (not b) noKeyLeads accepted
+    -- the comparison decides
+    pub decided : {b : Bool} → loadsAgain s iv ≡ b → returned tests ≡ cond (not b) noKeyLeads accepted
     decided e = returned-rest (testsBefore10 s iv (length target)) (noKeyLeadsTest s iv ∷ []) tt passed ∙ rw e
 
 -- past these tests, the state is walked back to t, and ys is the key that is recovered
@@ -199,7 +196,7 @@ module _ {s : State} {iv target : List ℕ} {t : State} {ys : List ℕ} (r : Rec
   front-length = sym (ap length front-is ∙ key-length)
 
   module _ {b : Bool} (eb : b ≡ sameRegisters (load front iv) (registersOf t)) where
-    compared : sameRegisters (load (keyOf s iv) iv) (loadedOf s) ≡ b
+    compared : loadsAgain s iv ≡ b
     compared = sym (eb ∙ ap₂ (λ (key : List ℕ) (x : State). sameRegisters (load key iv) (registersOf x)) (front-is ∙ key-is) (r .walked-back))
 
     pub check-accepts : {left : List ℕ} → b ≡ true → left ≡ take (length front) front ++ drop (length front) target → Left s iv target (record { number = accepted; state = s }) left

@@ -3,7 +3,7 @@
 use mathlib.Core.Path.{_≡_, refl, sym, _∙_, subst}
 use mathlib.Core.Logic.{_⊎_, inl, inr}
 use mathlib.Core.Bool.{Bool, true, false, true≢false, cond, not, _||_}
-use mathlib.Core.List.{List, [], _∷_}
+use mathlib.Core.List.{List, [], _∷_, _++_}
 use Prim.Native.Nat.{ℕ, _<_}
 use borrow.Author.Tests.{eqb-true, eqb-false, ne-eqb, ltb-true, ltb-false, not-true, not-false}
 use native.Mathlib.Nat.{not-le-of-lt}
@@ -53,6 +53,13 @@ accepted-none (t ∷ ts) [] n d e = absurd d
 accepted-none (t ∷ ts) (line ∷ lines) n d e =
     let r = returned-none t ts n e in
     (d .0 .no (r .0), accepted-none ts lines (both-right (not (eqb (t .number) accepted)) (numbered ts) n) (d .1 (r .0)) (r .1))
+
+-- one list after the other
+pub decide-append : (ts us : List Test) (lines more : List Line) → DecideAll ts lines → (returned ts ≡ accepted → DecideAll us more) → DecideAll (ts ++ us) (lines ++ more)
+decide-append [] us [] more d h = h refl
+decide-append [] us (line ∷ lines) more d h = absurd d
+decide-append (t ∷ ts) us [] more d h = absurd d
+decide-append (t ∷ ts) us (line ∷ lines) more d h = (d .0, λ e. decide-append ts us lines more (d .1 e) (λ z. h (rw e z)))
 
 pub refuses-exactly : (ts : List Test) (lines : List Line) (made back : State) → T (numbered ts) → DecideAll ts lines → RefusesExactly (answer ts made back) lines back
 refuses-exactly ts lines made back n d =

@@ -2,8 +2,8 @@
 -- Assumes nothing.
 use mathlib.Core.Path.{_≡_, refl, sym, ap, ap₂, _∙_}
 use mathlib.Core.Logic.{_⊎_, inl, inr}
-use mathlib.Core.Bool.{Bool, true, false, true≢false, cond, not}
-use mathlib.Core.List.{List}
+use mathlib.Core.Bool.{Bool, true, false, true≢false, cond}
+use mathlib.Core.List.{List, [], _∷_}
 use Prim.Native.Nat.{ℕ, _/_}
 use native.Mathlib.Omega.{arith}
 use borrow.Author.Tests.{not-true, not-false}
@@ -17,16 +17,12 @@ use Rattle.loading.specs.Recovery.{loadedFrom, recoveredKey}
 use Rattle.loading.proofs.LoadingLaws.{loading-laws}
 use Rattle.strumok.specs.Refusals.{accepted, noKeyLeads, limit, returned}
 use Rattle.strumok.specs.Opening.{Accepted, Leads}
-use Rattle.strumok.specs.Checking.{loadedOf, keyOf, sameRegisters, noKeyLeadsTest, testsBefore10, checkingTests, checked, checkedTarget}
-use Rattle.strumok.specs.Demands.{Call, NoneApplies, Reached, linesBefore10, checkingLines, Stored}
+use Rattle.strumok.specs.Checking.{loadedOf, keyOf, loadsAgain, noKeyLeadsTest, testsBefore10, checkingTests, checked, checkedTarget}
+use Rattle.strumok.specs.Demands.{Call, NoneApplies, Reached, linesBefore10, noKeyLeadsLine, checkingLines, Stored}
 use Rattle.strumok.proofs.Opened.{both-fit, key-and-iv}
-use Rattle.strumok.proofs.Lines.{Decides, DecideAll, first-line, none-applies, neither, is-not, above}
-use Rattle.strumok.proofs.Checks.{Checkable, all-fit, tests-checkable, checkable, registers-same, same-registers, decided}
+use Rattle.strumok.proofs.Lines.{Decides, DecideAll, first-line, none-applies, decide-append, neither, is-not, above}
+use Rattle.strumok.proofs.Checks.{Checkable, all-fit, checkable, registers-same, same-registers, decided}
 use Rattle.strumok.proofs.Chains.{reached-leads, reached-well-formed}
-
--- whether the key that is recovered loads what the state was loaded with
-abbrev loadsAgain : State → List ℕ → Bool
-loadsAgain s iv = sameRegisters (load (keyOf s iv) iv) (loadedOf s)
 
 -- ---- a key that leads to the state is found
 
@@ -35,7 +31,7 @@ module _ (s : State) (iv key : List ℕ) (l : Leads key iv s) where
   unfolding loadedOf registersAt
   loaded = ap (loadedFrom (s .position / 8)) (l .registers) ∙ loading-laws .walk-back-undoes (s .position / 8) .undone (load key iv) (loading-laws .loads-words key iv (key-and-iv (l .opening)))
 
-  pub key-found : keyOf s iv ≡ key
+  key-found : keyOf s iv ≡ key
   unfolding keyOf
   key-found =
       let n : s .size / 8 ≡ length key = omega (arith, l .size) in
@@ -80,7 +76,7 @@ module _ (s : State) (iv : List ℕ) (words : EighteenWords (registersOf s)) (by
       }
 
   -- so test 10 computes whether line 10 applies
-  decides-10 : Decides (noKeyLeadsTest s iv) (record { number = noKeyLeads; When = (key : List ℕ) → Leads key iv s → ⊥ })
+  decides-10 : Decides (noKeyLeadsTest s iv) (noKeyLeadsLine s iv)
   decides-10 =
       record {
         number = refl;
@@ -94,7 +90,7 @@ module _ (s : State) (iv target : List ℕ) where
   decided-before-10 : DecideAll (testsBefore10 s iv (length target)) (linesBefore10 s iv target)
   decided-before-10 = (is-not 2 (length iv) 32, λ t2. (neither 3 (s .size) 256 512, λ t3. (above 4 limit (s .position), λ t4. (is-not 9 (length target) (s .size / 8), λ t9. tt))))
 
-  pub accepted-before-10 : NoneApplies (linesBefore10 s iv target) → returned (testsBefore10 s iv (length target)) ≡ accepted
+  accepted-before-10 : NoneApplies (linesBefore10 s iv target) → returned (testsBefore10 s iv (length target)) ≡ accepted
   accepted-before-10 = none-applies (returned (testsBefore10 s iv (length target))) (linesBefore10 s iv target) (first-line (testsBefore10 s iv (length target)) (linesBefore10 s iv target) decided-before-10)
 
   pub unaltered : checked s iv target .state ≡ s
@@ -106,30 +102,16 @@ module _ (s : State) (iv target : List ℕ) where
 
   module _ (words : EighteenWords (registersOf s)) (bytes : Bytes iv) where
     pub checking-decided : DecideAll (checkingTests s iv (length target)) (checkingLines s iv target)
-    checking-decided = (
-      is-not 2 (length iv) 32,
-      λ t2. (
-        neither 3 (s .size) 256 512,
-        λ t3. (
-          above 4 limit (s .position),
-          λ t4. (
-            is-not 9 (length target) (s .size / 8),
-            λ t9.
-                (decides-10 s iv words bytes (tests-checkable s iv (length target) t2 t3 t9), λ t10. tt),
-          ),
-        ),
-      ),
-    )
+    checking-decided =
+        decide-append (testsBefore10 s iv (length target)) (noKeyLeadsTest s iv ∷ []) (linesBefore10 s iv target) (noKeyLeadsLine s iv ∷ []) decided-before-10
+        (λ passed. (decides-10 s iv words bytes (checkable s iv (length target) passed), λ t10. tt))
 
 -- ---- the demand
 
-module _ (s : State) (iv target : List ℕ) (passed : returned (testsBefore10 s iv (length target)) ≡ accepted) where
-  -- by what the comparison says, the number and the target
-  number-by : (b : Bool) → loadsAgain s iv ≡ b → checked s iv target .number ≡ cond (not b) noKeyLeads accepted
-  number-by b e = decided s iv target passed e
-
-  pub leads-accepted : (key : List ℕ) → Leads key iv s → (checked s iv target .number ≡ accepted) × (checkedTarget s iv target ≡ key)
-  leads-accepted key l = let zero = number-by true (loads-again s iv key l) in (zero, rw zero (key-found s iv key l))
+leads-accepted : (s : State) (iv target : List ℕ) → returned (testsBefore10 s iv (length target)) ≡ accepted → (key : List ℕ) → Leads key iv s → (checked s iv target .number ≡ accepted) × (checkedTarget s iv target ≡ key)
+leads-accepted s iv target passed key l =
+    let zero : checked s iv target .number ≡ accepted = decided s iv target passed (loads-again s iv key l) in
+    (zero, rw zero (key-found s iv key l))
 
 pub stored : (s : State) (iv target : List ℕ) → EighteenWords (registersOf s) → Bytes iv → NoneApplies (linesBefore10 s iv target) → Stored s iv target
 stored s iv target words bytes none =
@@ -149,11 +131,11 @@ stored s iv target words bytes none =
 
     accepts-only : (b : Bool) → loadsAgain s iv ≡ b → checked s iv target .number ≡ accepted → (key : List ℕ) × Leads key iv s
     accepts-only true e z = (keyOf s iv, led e)
-    accepts-only false e z = absurd (omega (arith, z, number-by s iv target passed false e))
+    accepts-only false e z = absurd (omega (arith, z, decided s iv target passed e))
 
     refuses : (b : Bool) → loadsAgain s iv ≡ b → ((key : List ℕ) → Leads key iv s → ⊥) → (checked s iv target .number ≡ noKeyLeads) × (checkedTarget s iv target ≡ target)
     refuses true e no-key = absurd (no-key (keyOf s iv) (led e))
-    refuses false e no-key = let ten = number-by s iv target passed false e in (ten, rw ten)
+    refuses false e no-key = let ten : checked s iv target .number ≡ noKeyLeads = decided s iv target passed e in (ten, rw ten)
 
 pub reached-accepted : (key iv : List ℕ) (calls : List Call) (s : State) (target : List ℕ) → Reached key iv calls s → length target ≡ length key → (checked s iv target ≡ record { number = accepted; state = s }) × (checkedTarget s iv target ≡ key)
 reached-accepted key iv calls s target r e =

@@ -16,10 +16,11 @@ use Rattle.strumok.specs.Refusals.{Test, noKeyLeads, ivLengthTest, keyTa
 unfoldable pub loadedOf : State → Registers
 loadedOf s = loadedFrom (s .position / 8) (registersOf s)
 
--- the key of the state's size that these registers give with that IV
+-- the key of the state's size that those registers give with that IV
 unfoldable pub keyOf : State → (iv : List ℕ) → List ℕ
 keyOf s iv = recoveredKey (s .size / 8) iv (loadedOf s .cells)
 
+-- as many words, and each the same
 abbrev pub sameWords : (xs ys : List ℕ) → Bool
 sameWords [] [] = true
 sameWords [] (y ∷ ys) = false
@@ -30,9 +31,12 @@ sameWords (x ∷ xs) (y ∷ ys) = eqb x y && sameWords xs ys
 unfoldable pub sameRegisters : (a b : Registers) → Bool
 sameRegisters a b = eqb (a .r1) (b .r1) && (eqb (a .r2) (b .r2) && sameWords (a .cells) (b .cells))
 
--- "then compares with the loading": that key, loaded again
+-- "then compares with the loading": whether that key, loaded again, gives these registers
+abbrev pub loadsAgain : State → (iv : List ℕ) → Bool
+loadsAgain s iv = sameRegisters (load (keyOf s iv) iv) (loadedOf s)
+
 abbrev pub noKeyLeadsTest : State → (iv : List ℕ) → Test
-noKeyLeadsTest s iv = record { number = noKeyLeads; applies = not (sameRegisters (load (keyOf s iv) iv) (loadedOf s)) }
+noKeyLeadsTest s iv = record { number = noKeyLeads; applies = not (loadsAgain s iv) }
 
 -- 2, 3, 4 and 9, which ask nothing of the registers, for a key target of len bytes
 abbrev pub testsBefore10 : State → (iv : List ℕ) (len : ℕ) → List Test

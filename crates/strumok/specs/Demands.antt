@@ -70,9 +70,12 @@ linesBefore10 s iv target =
     ∷ record { number = keyTargetLength; When = length target ≡ s .size / 8 → ⊥ }
     ∷ []
 
--- and 10: "no key of that size with that IV leads to this state"
+-- 10: "no key of that size with that IV leads to this state"
+abbrev pub noKeyLeadsLine : (s : State) (iv : List ℕ) → Line
+noKeyLeadsLine s iv = record { number = noKeyLeads; When = (key : List ℕ) → Leads key iv s → ⊥ }
+
 abbrev pub checkingLines : (s : State) (iv target : List ℕ) → List Line
-checkingLines s iv target = linesBefore10 s iv target ++ (record { number = noKeyLeads; When = (key : List ℕ) → Leads key iv s → ⊥ } ∷ [])
+checkingLines s iv target = linesBefore10 s iv target ++ (noKeyLeadsLine s iv ∷ [])
 
 -- "The lowest number that applies is returned, and otherwise 0": n is the number of the first line that applies, and 0 where none does
 abbrev pub Returned : ℕ → List Line → Type 0
