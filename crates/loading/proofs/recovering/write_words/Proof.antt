@@ -1,7 +1,7 @@
 -- `loading::recovering::write_words` meets its contract: after p turns the first p bytes are those of the string.
 -- Assumes nothing.
 use mathlib.Core.Path.{_≡_, refl, ap, _∙_}
-use Prim.Native.Nat.{ℕ, _+_, _-_, _%_, _≤_}
+use Prim.Native.Nat.{ℕ, _+_, _-_, _/_, _%_, _≤_}
 use native.Mathlib.Omega.{arith}
 use borrow.Author.Needs.{needs}
 use lib.ListN.{length}
@@ -25,8 +25,10 @@ loop-again c =
     let l = w .before .loop in
     let a = w .before .before .before .args in
     let b = a .string .now in
-    let word = ap (λ (x : ℕ). byte x ((length b - 1 - l .p) % 8)) (c .before .word-at .ensures) in
-    let more = filled-more (at (a .words)) b (l .p) (omega (arith, w, l .inv)) (l .inv .0) (c .byte-of .ensures ∙ word) in
+    let q = length b - 1 - l .p in
+    let word : c .before .word-at .result ≡ at (a .words) (q / 8) = c .before .word-at .ensures in
+    let written : c .byte-of .result ≡ byte (c .before .word-at .result) (q % 8) = c .byte-of .ensures in
+    let more = filled-more (at (a .words)) b (l .p) (omega (arith, w, l .inv)) (l .inv .0) (written ∙ ap (λ (x : ℕ). byte x (q % 8)) word) in
     let low : l .p + 1 ≤ length b = omega (arith, w, l .inv) in
     (more, (low, ap length more ∙ filled-length (at (a .words)) b (l .p + 1) low))
 

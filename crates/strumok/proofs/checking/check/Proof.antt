@@ -5,7 +5,7 @@ use mathlib.Core.Path.{_≡_, sym, _∙_}
 use native.Mathlib.Omega.{arith}
 use borrow.Author.Needs.{needs}
 use lib.ListN.{length}
-use Rattle.strumok.specs.Refusals.{accepted, returned}
+use Rattle.strumok.specs.Refusals.{accepted, noKeyLeads, returned}
 use Rattle.strumok.specs.Checking.{testsBefore10}
 use Rattle.strumok.proofs.Checks.{refused-before-10, target-le, room-length, Recovered, front-le, front-length, check-accepts, check-refuses}
 use Rattle.strumok.proofs.checking.check.Statement.{statement}
@@ -54,8 +54,10 @@ returns-2 c =
 returns-3 : tie.Need-returns-3
 returns-3 c =
     let l = c .before .before in
-    let left = check-refuses (recovered (l .before .before .before)) (l .is-loading .ensures) (c .before .if2 .left) in
-    (c .refused2 .ensures ∙ left .0, left .1)
+    let r = recovered (l .before .before .before) in
+    let ten : c .refused2 .result ≡ record { number = noKeyLeads; state = _ } = c .refused2 .ensures in
+    let left = check-refuses r (l .is-loading .ensures) (c .before .if2 .left) in
+    (ten ∙ left .0, left .1)
 
 pub check-spec : {M : Type 1} → statement M
 check-spec =

@@ -1,6 +1,6 @@
 -- `strumok::checking::is_loading` meets its contract: a loading has both registers 0.
 -- Assumes nothing.
-use mathlib.Core.Path.{ap, _∙_}
+use mathlib.Core.Path.{_≡_, ap, _∙_}
 use mathlib.Core.List.{List}
 use Prim.Native.Nat.{ℕ}
 use borrow.Author.Needs.{needs}
@@ -24,7 +24,8 @@ returns-3 c =
     let two = l .before in
     let one = two .before .before in
     let a = one .before .before .before .before .args in
-    c .same-cells .ensures ∙ ap (λ (cells : List ℕ). sameWords cells (a .t .cells)) (l .load-cells .ensures)
+    let same : c .same-cells .result ≡ sameWords (l .load-cells .result) (a .t .cells) = c .same-cells .ensures in
+    same ∙ ap (λ (cells : List ℕ). sameWords cells (a .t .cells)) (l .load-cells .ensures)
     ∙ cells-decide (a .t) (a .key .now) (a .iv .now) (one .if1 .left) (two .if2 .left)
 
 pub is-loading-spec : {M : Type 1} → statement M

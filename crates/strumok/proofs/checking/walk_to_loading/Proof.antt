@@ -5,6 +5,7 @@ use Prim.Native.Nat.{_+_, _/_}
 use borrow.Author.Needs.{needs}
 use Rattle.generator.specs.declared.Kind.the-variants.{Ordinary, Initial}
 use Rattle.generator.specs.Registers.{previous, walked}
+use Rattle.generator.specs.Functions.{previousBy}
 use Rattle.generator.proofs.GeneratorLaws.{backward-by-tables}
 use Rattle.loading.specs.Recovery.{loadedFrom}
 use Rattle.strumok.specs.Checking.{loadedOf}
@@ -20,9 +21,10 @@ returns c =
     let m = b .before in
     let by = backward-by-tables (m .matrix-inverse-tables .ensures) (b .pi-inverse-tables .ensures) (i .alpha-inverse-table .ensures) in
     let s = m .before .args .s in
-    let ordinary : o .backward .result ≡ walked (previous Ordinary) (s .position / 8 + 1) s = o .backward .ensures ∙ by Ordinary (s .position / 8 + 1) s in
-    let initial : c .backward2 .result ≡ walked (previous Initial) 32 (o .backward .result) = c .backward2 .ensures ∙ by Initial 32 (o .backward .result) in
-    initial ∙ ap (walked (previous Initial) 32) ordinary
+    let step = previousBy (m .matrix-inverse-tables .result) (b .pi-inverse-tables .result) (i .alpha-inverse-table .result) in
+    let ordinary : o .backward .result ≡ walked (step Ordinary) (s .position / 8 + 1) s = o .backward .ensures in
+    let initial : c .backward2 .result ≡ walked (step Initial) 32 (o .backward .result) = c .backward2 .ensures in
+    initial ∙ by Initial 32 (o .backward .result) ∙ ap (walked (previous Initial) 32) (ordinary ∙ by Ordinary (s .position / 8 + 1) s)
 
 pub walk-to-loading-spec : {M : Type 1} → statement M
 walk-to-loading-spec =

@@ -1,9 +1,10 @@
 -- `strumok::opening::initialise` meets its contract: the tables are those of T and α.
 -- Assumes nothing.
-use mathlib.Core.Path.{ap, _∙_}
+use mathlib.Core.Path.{_≡_, ap, _∙_}
 use borrow.Author.Needs.{needs}
 use Rattle.generator.specs.declared.Kind.the-variants.{Ordinary, Initial}
 use Rattle.generator.specs.Registers.{next, walked}
+use Rattle.generator.specs.Functions.{nextBy}
 use Rattle.generator.proofs.GeneratorLaws.{forward-by-tables}
 use Rattle.loading.specs.Loading.{initialised}
 use Rattle.strumok.proofs.opening.initialise.Statement.{statement}
@@ -17,8 +18,10 @@ returns c =
     let a = i .before in
     let t = a .before in
     let by = forward-by-tables (t .substitution-tables .ensures) (a .alpha-table .ensures) (i .alpha-inverse-table .ensures) in
-    c .forward2 .ensures ∙ by Ordinary 1 (f .forward .result)
-    ∙ ap (walked (next Ordinary) 1) (f .forward .ensures ∙ by Initial 32 (t .before .args .s))
+    let step = nextBy (t .substitution-tables .result) (a .alpha-table .result) (i .alpha-inverse-table .result) in
+    let initial : f .forward .result ≡ walked (step Initial) 32 (t .before .args .s) = f .forward .ensures in
+    let ordinary : c .forward2 .result ≡ walked (step Ordinary) 1 (f .forward .result) = c .forward2 .ensures in
+    ordinary ∙ by Ordinary 1 (f .forward .result) ∙ ap (walked (next Ordinary) 1) (initial ∙ by Initial 32 (t .before .args .s))
 
 pub initialise-spec : {M : Type 1} → statement M
 initialise-spec =
