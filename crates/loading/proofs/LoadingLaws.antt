@@ -24,7 +24,7 @@ use Rattle.loading.proofs.Strings.{reverse-lt, wordOf-lt, stringOf-leng
 use Rattle.loading.proofs.Rows.{holdsKey, holdsKeyAlone, holdsIv, someRow, same-key, same-iv, loadedCell-lt}
 use Rattle.loading.proofs.Recovered.{recovers-word}
 
-size-of : {key iv : List ℕ} → KeyAndIv key iv → (sizeMark key ≡ 256) ⊎ (sizeMark key ≡ 512)
+pub size-of : {key iv : List ℕ} → KeyAndIv key iv → (sizeMark key ≡ 256) ⊎ (sizeMark key ≡ 512)
 size-of {key} o = by (o .key-length)
   where
     by : (length key ≡ 32) ⊎ (length key ≡ 64) → (sizeMark key ≡ 256) ⊎ (sizeMark key ≡ 512)
@@ -134,10 +134,6 @@ not-one-to-one-in-both-512 h =
     absurd (omega (arith, ap (λ (l : List ℕ). at l 31) e))
 
 -- ---- and after n steps
-
-pub initialised-words : (r : Registers) → EighteenWords r → EighteenWords (initialised r)
-unfolding initialised
-initialised-words r w = generator-laws .previous-next Ordinary .keeps _ (generator-laws .back-forward Initial 32 .keeps r w)
 
 walk-back-undoes : (n : ℕ) → UndoneBy (loadedFrom n) (λ r. iterate (next Ordinary) n (initialised r))
 unfolding initialised loadedFrom

@@ -1,7 +1,6 @@
 -- Chains of accepted calls: where they lead, and what a further portion or window writes there.
 -- Assumes nothing.
 use mathlib.Core.Path.{_≡_, refl, sym, ap, _∙_, subst}
-use mathlib.Core.Logic.{_⊎_, inl, inr}
 use mathlib.Core.List.{List, [], _∷_, _++_}
 use Prim.Native.Nat.{ℕ, _+_, _-_, _<_, _≤_}
 use native.Mathlib.Nat.{zero-add}
@@ -14,10 +13,13 @@ use Rattle.galois.specs.Words.{at}
 use Rattle.generator.specs.declared.State.{State}
 use Rattle.keystream.proofs.Masked.{masked-length, masked-at}
 use Rattle.strumok.specs.Refusals.{Test, accepted, targetTest, windowTest, WellFormed}
-use Rattle.strumok.specs.Opening.{Leads, openedState, opened}
+use Rattle.strumok.specs.Opening.{Leads, opened}
 use Rattle.strumok.specs.Moving.{movedTo}
 use Rattle.strumok.specs.Applying.{keystreamByte, keystreamByteOf, withKeystream, applied, appliedTarget, windowed, windowedBuffer}
 use Rattle.strumok.specs.Demands.{Call, portion, window, move, check, answerTo, countOf, after, AllAccepted, total, Reached, Ciphered, KeystreamAt}
+use Rattle.loading.specs.Loading.{sizeMark}
+use Rattle.loading.proofs.LoadingLaws.{size-of}
+use Rattle.strumok.proofs.Tests.{one-of}
 use Rattle.strumok.proofs.Opened.{key-and-iv}
 use Rattle.strumok.proofs.MovingLaws.{ends, moved-state, moved-well-formed, position-moved, moved-to-leads, moving-laws}
 use Rattle.strumok.proofs.Portions.{Advances, advances, window-end}
@@ -74,11 +76,7 @@ module _ {key iv : List ℕ} where
     reached-position = ap (λ (x : State). pos (x .position)) (r .state) ∙ chain .1 ∙ ap (λ (p : ℕ). pos p +ℤ total calls) opened-position ∙ +ℤ-idl (total calls)
 
     opened-well-formed : WellFormed (opened key iv .state)
-    opened-well-formed = let o = key-and-iv (r .opening) in rw (r .opening .opens) (by (o .key-length))
-      where
-        by : (length key ≡ 32) ⊎ (length key ≡ 64) → WellFormed (openedState key iv)
-        by (inl e) = rw e refl
-        by (inr e) = rw e refl
+    opened-well-formed = rw (r .opening .opens, one-of (sizeMark key) 256 512 (size-of (key-and-iv (r .opening)))) refl
 
     pub reached-well-formed : WellFormed s
     reached-well-formed = subst WellFormed (sym (r .state)) (after-well-formed (opened key iv .state) calls opened-well-formed (r .accepts))

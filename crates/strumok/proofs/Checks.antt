@@ -1,7 +1,7 @@
 -- The tests of checking, the comparison of registers, and what the code of checking makes, equated with the definitions.
 -- Assumes nothing.
 use mathlib.Core.Path.{_≡_, refl, sym, ap, ap₂, _∙_}
-use mathlib.Core.Logic.{_⊎_, inl, inr}
+use mathlib.Core.Logic.{_⊎_}
 use mathlib.Core.Bool.{Bool, true, false, true≢false, cond, not, _&&_}
 use mathlib.Core.List.{List, [], _∷_, _++_, append-nil}
 use Prim.Native.Nat.{ℕ, suc, _/_, _<_, _≤_}
@@ -19,6 +19,7 @@ use Rattle.loading.proofs.LoadingLaws.{loading-laws}
 use Rattle.strumok.specs.declared.Answer.{Answer}
 use Rattle.strumok.specs.Refusals.{Test, accepted, ivLength, keyTargetLength, noKeyLeads, ivLengthTest, sizeMarkTest, positionTest, keyTargetTest, stateTests, returned, WellFormed}
 use Rattle.strumok.specs.Checking.{loadedOf, keyOf, sameWords, sameRegisters, loadsAgain, noKeyLeadsTest, testsBefore10, checkingTests, checked, checkedTarget}
+use Rattle.strumok.proofs.Opened.{key-of-size, key-le}
 use Rattle.strumok.proofs.Tests.{is-one-of, returned-first, returned-rest, returned-none, answer-refused, answer-accepted, written-refused, written-accepted}
 
 -- ---- the tests that ask nothing of the registers
@@ -148,11 +149,7 @@ module _ (s : State) (iv target : List ℕ) where
     fits = checkable s iv (length target) passed
 
     pub target-le : length target ≤ 64
-    target-le = by (fits .size)
-      where
-        by : (s .size ≡ 256) ⊎ (s .size ≡ 512) → length target ≤ 64
-        by (inl e) = omega (arith, fits .target-length)
-        by (inr e) = omega (arith, fits .target-length)
+    target-le = key-le (key-of-size (fits .size) (fits .target-length) .0)
 
     -- the part of the local array that the key goes to
     pub room-length : length target ≡ length (take (length target) room)

@@ -9,7 +9,7 @@ use Rattle.strumok.specs.Moving.{newPosition, movingTests}
 use Rattle.strumok.specs.Applying.{applyingTests, windowTests}
 use Rattle.strumok.specs.Checking.{checkingTests, keyOf}
 use Rattle.strumok.specs.Demands.{openingLines, movingLines, applyingLines, windowLines, checkingLines, Refusals, Keystream, OpeningsDiffer, StoredStates}
-use Rattle.strumok.proofs.Lines.{refuses-exactly, writes-nothing, neither, is-not, above, above-ℤ}
+use Rattle.strumok.proofs.Lines.{refuses-exactly, writes-nothing, neither, is-not, above, above-ℤ, state-decided}
 use Rattle.loading.proofs.LoadingLaws.{loading-laws}
 use Rattle.strumok.proofs.Opened.{key-and-iv}
 use Rattle.strumok.proofs.Chains.{reached-leads, reached-position, keystream-at}
@@ -22,17 +22,17 @@ refusals =
     record {
       opening = λ key iv. refuses-exactly (openingTests key iv) (openingLines key iv) (openedState key iv) blank tt (neither 1 (length key) 32 64, λ t1. (is-not 2 (length iv) 32, λ t2. tt));
       moving = λ s d. refuses-exactly (movingTests s d) (movingLines s d) _ s tt
-          (neither 3 (s .size) 256 512, λ t3. (above 4 limit (s .position), λ t4. (above-ℤ 7 (pos limit) (newPosition s d), λ t7. (above-ℤ 8 (newPosition s d) (pos 0), λ t8. tt))));
+          (state-decided s (above-ℤ 7 (pos limit) (newPosition s d), λ t7. (above-ℤ 8 (newPosition s d) (pos 0), λ t8. tt)));
       applying = λ s source target.
           let tests = applyingTests s (length source) (length target) in (
             refuses-exactly tests (applyingLines s source target) _ s tt
-                (neither 3 (s .size) 256 512, λ t3. (above 4 limit (s .position), λ t4. (above 5 (length target) (length source), λ t5. (above 7 limit (s .position + length source), λ t7. tt)))),
+                (state-decided s (above 5 (length target) (length source), λ t5. (above 7 limit (s .position + length source), λ t7. tt))),
             writes-nothing tests _ target,
           );
       window = λ s buffer start count.
           let tests = windowTests s (length buffer) start count in (
             refuses-exactly tests (windowLines s buffer start count) _ s tt
-                (neither 3 (s .size) 256 512, λ t3. (above 4 limit (s .position), λ t4. (above 6 (length buffer) (start + count), λ t6. (above 7 limit (s .position + count), λ t7. tt)))),
+                (state-decided s (above 6 (length buffer) (start + count), λ t6. (above 7 limit (s .position + count), λ t7. tt))),
             writes-nothing tests _ buffer,
           );
       checking = λ s iv target words bytes.

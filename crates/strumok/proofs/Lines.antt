@@ -12,8 +12,8 @@ use lib.IntN.{ℤ}
 use lib.Signed.{ltZ, _<ℤ_}
 use Rattle.galois.proofs.Computed.{both-right}
 use Rattle.generator.specs.declared.State.{State}
-use Rattle.strumok.specs.Refusals.{Test, accepted, returned, answer, written}
-use Rattle.strumok.specs.Demands.{Line, Returned, NoneApplies, RefusesExactly}
+use Rattle.strumok.specs.Refusals.{Test, limit, accepted, stateTests, returned, answer, written}
+use Rattle.strumok.specs.Demands.{Line, stateLines, Returned, NoneApplies, RefusesExactly}
 use Rattle.strumok.proofs.Tests.{one-of, is-one-of, numbered, returned-none}
 
 -- ---- lists of tests
@@ -24,12 +24,15 @@ pub record Decides (t : Test) (line : Line) : Type 0 where
   pub yes : t .applies ≡ true → line .When
   pub no : t .applies ≡ false → line .When → ⊥
 
--- each does, where none before it applies
+-- each does, where none before it applies, and where none applies there is the rest
+abbrev pub DecideThen : Type 0 → List Test → List Line → Type 0
+DecideThen Rest [] [] = Rest
+DecideThen Rest [] (line ∷ lines) = ⊥
+DecideThen Rest (t ∷ ts) [] = ⊥
+DecideThen Rest (t ∷ ts) (line ∷ lines) = Decides t line × (t .applies ≡ false → DecideThen Rest ts lines)
+
 abbrev pub DecideAll : List Test → List Line → Type 0
-DecideAll [] [] = Unit
-DecideAll [] (line ∷ lines) = ⊥
-DecideAll (t ∷ ts) [] = ⊥
-DecideAll (t ∷ ts) (line ∷ lines) = Decides t line × (t .applies ≡ false → DecideAll ts lines)
+DecideAll = DecideThen Unit
 
 pub first-line : (ts : List Test) (lines : List Line) → DecideAll ts lines → Returned (returned ts) lines
 first-line [] [] d = refl
@@ -54,7 +57,7 @@ accepted-none (t ∷ ts) (line ∷ lines) n d e =
     let r = returned-none t ts n e in
     (d .0 .no (r .0), accepted-none ts lines (both-right (not (eqb (t .number) accepted)) (numbered ts) n) (d .1 (r .0)) (r .1))
 
--- one list after the other
+-- what follows may count on all before it
 pub decide-append : (ts us : List Test) (lines more : List Line) → DecideAll ts lines → (returned ts ≡ accepted → DecideAll us more) → DecideAll (ts ++ us) (lines ++ more)
 decide-append [] us [] more d h = h refl
 decide-append [] us (line ∷ lines) more d h = absurd d
@@ -95,3 +98,7 @@ above k a n = record { number = refl; yes = ltb-true a n; no = λ e h. not-le-of
 
 pub above-ℤ : (k : ℕ) (a n : ℤ) → Decides (record { number = k; applies = ltZ a n }) (record { number = k; When = a <ℤ n })
 above-ℤ k a n = record { number = refl; yes = λ e. record { lt = subst T (sym e) tt }; no = λ e h. subst T e (h .lt) }
+
+-- 3 and 4, before the rest
+pub state-decided : (s : State) {Rest : Type 0} → Rest → DecideThen Rest (stateTests s) (stateLines s)
+state-decided s rest = (neither 3 (s .size) 256 512, λ t3. (above 4 limit (s .position), λ t4. rest))

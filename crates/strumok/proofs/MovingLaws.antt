@@ -17,7 +17,7 @@ use Rattle.strumok.specs.MovingLaws.{MovingLaws}
 use Rattle.strumok.proofs.Tests.{returned-none}
 use Rattle.strumok.proofs.Opened.{key-and-iv}
 use Rattle.strumok.proofs.Moves.{endTests, position-le, moves-to}
-use Rattle.loading.proofs.LoadingLaws.{initialised-words, loading-laws}
+use Rattle.loading.proofs.LoadingLaws.{loading-laws}
 use Rattle.strumok.proofs.Walks.{walk-from, walk-walk, walk-same}
 
 -- ---- what an accepted move tells
@@ -78,7 +78,7 @@ there-and-back s d w e =
 -- ---- where a key leads
 
 registers-words : (key iv : List ℕ) → Accepted key iv → EighteenWords (initialised (load key iv))
-registers-words key iv o = initialised-words (load key iv) (loading-laws .loads-words key iv (key-and-iv o))
+registers-words key iv o = loading-laws .walk-back-undoes 0 .keeps (load key iv) (loading-laws .loads-words key iv (key-and-iv o))
 
 -- S at word a, walked to word b, is S there
 walk-registers : (key iv : List ℕ) → Accepted key iv → (a b : ℕ) → walk a b (registersAt key iv a) ≡ registersAt key iv b

@@ -3,7 +3,7 @@
 use mathlib.Core.Path.{_≡_, _∙_}
 use mathlib.Core.Logic.{_⊎_, inl, inr}
 use mathlib.Core.List.{List, [], _∷_}
-use Prim.Native.Nat.{ℕ, _≤_}
+use Prim.Native.Nat.{ℕ, _*_, _/_, _≤_}
 use native.Mathlib.Omega.{arith}
 use borrow.Author.Tests.{eqb-true, not-false}
 use lib.Dec.{eqb}
@@ -15,17 +15,24 @@ use Rattle.strumok.specs.Refusals.{keyLengthTest, ivLengthTest, accepted
 use Rattle.strumok.specs.Opening.{blank, openedState, openingTests, opened, Accepted}
 use Rattle.strumok.proofs.Tests.{one-of, is-one-of, returned-none, answer-accepted}
 
+-- ---- the length of a key
+
+pub key-le : {n : ℕ} → (n ≡ 32) ⊎ (n ≡ 64) → n ≤ 64
+key-le (inl e) = omega arith
+key-le (inr e) = omega arith
+
+-- an eighth of a size mark
+pub key-of-size : {size n : ℕ} → (size ≡ 256) ⊎ (size ≡ 512) → n ≡ size / 8 → ((n ≡ 32) ⊎ (n ≡ 64)) × (size ≡ 8 * n)
+key-of-size (inl e) l = (inl (omega arith), omega arith)
+key-of-size (inr e) l = (inr (omega arith), omega arith)
+
 -- ---- what an accepted opening tells
 
 pub key-length : (key iv : List ℕ) → returned (openingTests key iv) ≡ accepted → (length key ≡ 32) ⊎ (length key ≡ 64)
 key-length key iv e = is-one-of (length key) 32 64 (returned-none (keyLengthTest key) (ivLengthTest iv ∷ []) tt e .0)
 
 pub key-short : (key iv : List ℕ) → returned (openingTests key iv) ≡ accepted → length key ≤ 64
-key-short key iv e = by (key-length key iv e)
-  where
-    by : (length key ≡ 32) ⊎ (length key ≡ 64) → length key ≤ 64
-    by (inl l) = omega arith
-    by (inr l) = omega arith
+key-short key iv e = key-le (key-length key iv e)
 
 -- what opening accepts is a key of 256 or 512 bits and an IV of 256
 pub key-and-iv : {key iv : List ℕ} → Accepted key iv → KeyAndIv key iv

@@ -1,7 +1,7 @@
 -- What the check of a stored state answers: whether a key leads to it, and which.
 -- Assumes nothing.
 use mathlib.Core.Path.{_≡_, refl, sym, ap, ap₂, _∙_}
-use mathlib.Core.Logic.{_⊎_, inl, inr}
+use mathlib.Core.Logic.{_⊎_}
 use mathlib.Core.Bool.{Bool, true, false, true≢false, cond}
 use mathlib.Core.List.{List, [], _∷_}
 use Prim.Native.Nat.{ℕ, _/_}
@@ -15,12 +15,12 @@ use Rattle.generator.specs.Registers.{Registers, EighteenWords, registersOf, ne
 use Rattle.loading.specs.Loading.{Bytes, sizeMark, load, initialised, registersAt}
 use Rattle.loading.specs.Recovery.{loadedFrom, recoveredKey}
 use Rattle.loading.proofs.LoadingLaws.{loading-laws}
-use Rattle.strumok.specs.Refusals.{accepted, noKeyLeads, limit, returned}
-use Rattle.strumok.specs.Opening.{Accepted, Leads}
+use Rattle.strumok.specs.Refusals.{accepted, noKeyLeads, returned}
+use Rattle.strumok.specs.Opening.{Leads}
 use Rattle.strumok.specs.Checking.{loadedOf, keyOf, loadsAgain, noKeyLeadsTest, testsBefore10, checkingTests, checked, checkedTarget}
 use Rattle.strumok.specs.Demands.{Call, NoneApplies, Reached, linesBefore10, noKeyLeadsLine, checkingLines, Stored}
-use Rattle.strumok.proofs.Opened.{both-fit, key-and-iv}
-use Rattle.strumok.proofs.Lines.{Decides, DecideAll, first-line, none-applies, decide-append, neither, is-not, above}
+use Rattle.strumok.proofs.Opened.{key-of-size, both-fit, key-and-iv}
+use Rattle.strumok.proofs.Lines.{Decides, DecideAll, first-line, none-applies, decide-append, is-not, state-decided}
 use Rattle.strumok.proofs.Checks.{Checkable, all-fit, checkable, registers-same, same-registers, decided}
 use Rattle.strumok.proofs.Chains.{reached-leads, reached-well-formed}
 
@@ -42,7 +42,7 @@ module _ (s : State) (iv key : List ℕ) (l : Leads key iv s) where
 
 -- ---- and a key that loads again leads to the state
 
-module _ (s : State) (iv : List ℕ) (words : EighteenWords (registersOf s)) (bytes : Bytes iv) {len : ℕ} (fits : Checkable s iv len) where
+module _ (s : State) (iv : List ℕ) where
   found-length : length (keyOf s iv) ≡ s .size / 8
   unfolding keyOf
   found-length = loading-laws .recovered-length (s .size / 8) iv (loadedOf s .cells)
@@ -51,27 +51,17 @@ module _ (s : State) (iv : List ℕ) (words : EighteenWords (registersOf s)) (by
   unfolding keyOf
   found-bytes = loading-laws .recovered-bytes (s .size / 8) iv (loadedOf s .cells)
 
-  found-opens : Accepted (keyOf s iv) iv
-  found-opens = record { key-bytes = found-bytes; iv-bytes = bytes; opens = both-fit (keyOf s iv) iv (by (fits .size)) (fits .iv-length) }
-    where
-      by : (s .size ≡ 256) ⊎ (s .size ≡ 512) → (length (keyOf s iv) ≡ 32) ⊎ (length (keyOf s iv) ≡ 64)
-      by (inl e) = inl (found-length ∙ rw e)
-      by (inr e) = inr (found-length ∙ rw e)
-
-  found-size : s .size ≡ sizeMark (keyOf s iv)
-  found-size = by (fits .size)
-    where
-      by : (s .size ≡ 256) ⊎ (s .size ≡ 512) → s .size ≡ sizeMark (keyOf s iv)
-      by (inl e) = omega (arith, found-length)
-      by (inr e) = omega (arith, found-length)
+module _ (s : State) (iv : List ℕ) (words : EighteenWords (registersOf s)) (bytes : Bytes iv) {len : ℕ} (fits : Checkable s iv len) where
+  found-sized : ((length (keyOf s iv) ≡ 32) ⊎ (length (keyOf s iv) ≡ 64)) × (s .size ≡ sizeMark (keyOf s iv))
+  found-sized = key-of-size (fits .size) (found-length s iv)
 
   found-leads : loadsAgain s iv ≡ true → Leads (keyOf s iv) iv s
   unfolding loadedOf registersAt
   found-leads e =
       let n = s .position / 8 in
       record {
-        opening = found-opens;
-        size = found-size;
+        opening = record { key-bytes = found-bytes s iv; iv-bytes = bytes; opens = both-fit (keyOf s iv) iv (found-sized .0) (fits .iv-length) };
+        size = found-sized .1;
         registers = sym (ap (λ (r : Registers). iterate (next Ordinary) n (initialised r)) (registers-same (load (keyOf s iv) iv) (loadedOf s) e) ∙ loading-laws .walk-back-undone n .undone (registersOf s) words);
       }
 
@@ -88,7 +78,7 @@ module _ (s : State) (iv : List ℕ) (words : EighteenWords (registersOf s)) (by
 
 module _ (s : State) (iv target : List ℕ) where
   decided-before-10 : DecideAll (testsBefore10 s iv (length target)) (linesBefore10 s iv target)
-  decided-before-10 = (is-not 2 (length iv) 32, λ t2. (neither 3 (s .size) 256 512, λ t3. (above 4 limit (s .position), λ t4. (is-not 9 (length target) (s .size / 8), λ t9. tt))))
+  decided-before-10 = (is-not 2 (length iv) 32, λ t2. state-decided s (is-not 9 (length target) (s .size / 8), λ t9. tt))
 
   accepted-before-10 : NoneApplies (linesBefore10 s iv target) → returned (testsBefore10 s iv (length target)) ≡ accepted
   accepted-before-10 = none-applies (returned (testsBefore10 s iv (length target))) (linesBefore10 s iv target) (first-line (testsBefore10 s iv (length target)) (linesBefore10 s iv target) decided-before-10)

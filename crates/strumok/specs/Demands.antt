@@ -34,41 +34,42 @@ openingLines key iv =
     ∷ record { number = ivLength; When = length iv ≡ 32 → ⊥ }
     ∷ []
 
+-- 3 and 4, the lines of a state
+abbrev pub stateLines : (s : State) → List Line
+stateLines s =
+    record { number = badSizeMark; When = (s .size ≡ 256 → ⊥) × (s .size ≡ 512 → ⊥) }
+    ∷ record { number = positionAbove; When = limit < s .position }
+    ∷ []
+
 -- "moving 3, 4, 7, 8"
 abbrev pub movingLines : (s : State) (distance : ℤ) → List Line
 movingLines s distance =
-    record { number = badSizeMark; When = (s .size ≡ 256 → ⊥) × (s .size ≡ 512 → ⊥) }
-    ∷ record { number = positionAbove; When = limit < s .position }
-    ∷ record { number = newPositionAbove; When = pos limit <ℤ newPosition s distance }
+    stateLines s
+    ++ (record { number = newPositionAbove; When = pos limit <ℤ newPosition s distance }
     ∷ record { number = newPositionBelow; When = newPosition s distance <ℤ pos 0 }
-    ∷ []
+    ∷ [])
 
 -- "applying 3, 4, 5, 7"
 abbrev pub applyingLines : (s : State) (source target : List ℕ) → List Line
 applyingLines s source target =
-    record { number = badSizeMark; When = (s .size ≡ 256 → ⊥) × (s .size ≡ 512 → ⊥) }
-    ∷ record { number = positionAbove; When = limit < s .position }
-    ∷ record { number = targetShorter; When = length target < length source }
+    stateLines s
+    ++ (record { number = targetShorter; When = length target < length source }
     ∷ record { number = newPositionAbove; When = limit < s .position + length source }
-    ∷ []
+    ∷ [])
 
 -- "the window 3, 4, 6, 7"
 abbrev pub windowLines : (s : State) (buffer : List ℕ) (start count : ℕ) → List Line
 windowLines s buffer start count =
-    record { number = badSizeMark; When = (s .size ≡ 256 → ⊥) × (s .size ≡ 512 → ⊥) }
-    ∷ record { number = positionAbove; When = limit < s .position }
-    ∷ record { number = windowPastEnd; When = length buffer < start + count }
+    stateLines s
+    ++ (record { number = windowPastEnd; When = length buffer < start + count }
     ∷ record { number = newPositionAbove; When = limit < s .position + count }
-    ∷ []
+    ∷ [])
 
 -- "checking 2, 3, 4, 9, 10": those before 10
 abbrev pub linesBefore10 : (s : State) (iv target : List ℕ) → List Line
 linesBefore10 s iv target =
     record { number = ivLength; When = length iv ≡ 32 → ⊥ }
-    ∷ record { number = badSizeMark; When = (s .size ≡ 256 → ⊥) × (s .size ≡ 512 → ⊥) }
-    ∷ record { number = positionAbove; When = limit < s .position }
-    ∷ record { number = keyTargetLength; When = length target ≡ s .size / 8 → ⊥ }
-    ∷ []
+    ∷ (stateLines s ++ (record { number = keyTargetLength; When = length target ≡ s .size / 8 → ⊥ } ∷ []))
 
 -- 10: "no key of that size with that IV leads to this state"
 abbrev pub noKeyLeadsLine : (s : State) (iv : List ℕ) → Line

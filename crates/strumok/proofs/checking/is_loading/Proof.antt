@@ -4,6 +4,7 @@ use mathlib.Core.Path.{_≡_, ap, _∙_}
 use mathlib.Core.List.{List}
 use Prim.Native.Nat.{ℕ}
 use borrow.Author.Needs.{needs}
+use Rattle.loading.specs.Loading.{load}
 use Rattle.strumok.specs.Checking.{sameWords}
 use Rattle.strumok.proofs.Checks.{r1-differs, r2-differs, cells-decide}
 use Rattle.strumok.proofs.checking.is_loading.Statement.{statement}
@@ -24,8 +25,9 @@ returns-3 c =
     let two = l .before in
     let one = two .before .before in
     let a = one .before .before .before .before .args in
+    let loaded : l .load-cells .result ≡ load (a .key .now) (a .iv .now) .cells = l .load-cells .ensures in
     let same : c .same-cells .result ≡ sameWords (l .load-cells .result) (a .t .cells) = c .same-cells .ensures in
-    same ∙ ap (λ (cells : List ℕ). sameWords cells (a .t .cells)) (l .load-cells .ensures)
+    same ∙ ap (λ (cells : List ℕ). sameWords cells (a .t .cells)) loaded
     ∙ cells-decide (a .t) (a .key .now) (a .iv .now) (one .if1 .left) (two .if2 .left)
 
 pub is-loading-spec : {M : Type 1} → statement M
