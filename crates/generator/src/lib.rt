@@ -11,7 +11,9 @@ use std::num::wrapping_sub_u64;
 use substitution::substitute_word_by_tables;
 use substitution::substitute_word_inverse_by_tables;
 
-// The cells s0..s15, the registers r1 and r2, the size mark (256 or 512) and the byte position, which is the point that the state claims.
+// The cells s0..s15, the registers r1 and r2, the size mark (256 or 512) and the byte position, which is the point that the state claims. To C
+// it is twenty 64-bit words in this order.
+#[repr(C)]
 pub struct State {
     pub cells: [u64; 16],
     pub r1: u64,
