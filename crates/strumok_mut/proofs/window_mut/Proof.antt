@@ -124,7 +124,7 @@ module _ {M : Type 1} (𝓤 : URA M) (H : Heap 𝓤) (A : Atoms 𝓤) (W : Given
   exits r zs fits e l =
       qed W (had r zs) ∵
       suffices ! _ (ends-saying 𝓤 H A window-mut.ended stayed (window-mut.clauses 𝓤 H A at-mem run) W bound (vint w64 (r .number)) (r .number) (r .state, (zs, (tt, (tt, tt)))) (tt, (l, (tt, (tt, tt))))
-      (joined-in 𝓤 (_ ∷ _ ∷ _ ∷ []) (ap (λ (y : Answer). y .number) (e .0), (ap (λ (y : Answer). y .state) (e .0), (e .1 .0, tt))))) $
+      (joined-in 𝓤 (_ ∷ _ ∷ _ ∷ []) ((λ i. e .0 i .number), ((λ i. e .0 i .state), (e .1 .0, tt))))) $
       move ! (2 ∷ 3 ∷ []) $ join ! $ frame ! $ feqI ! (List Val) (ptr ∷ []) (ptr ∷ []) refl $ fjoin3 ! $ move ! (1 ∷ []) $ then-counts ! start-fits count-fits $ move ! (1 ∷ []) $ fjoin ! $
       owned ! u64 (Is u64) (uint-makes 𝓤 H A W w64) (r .number) _ (refl, fits) $ move ! (1 ∷ []) $ done !
 
