@@ -1,15 +1,15 @@
 # The repository's two commands, and the layout of its files. `make test` is the gate.
 .PHONY: test run fmt
 
-# Proves every crate from nothing, tries the must-fail edits, runs the programs and the tests from C. Last line: N passed, 0 failed.
+# Proves every crate from nothing, tries the must-fail edits, runs the programs and the tests outside Rattle. Last line: N passed, 0 failed.
 test:
 	@tools/test
 
-# Builds the tables program and runs it.
+# The demonstration: an order file enciphered, opened from the middle, a state stored and taken up, a damaged state refused.
 run:
-	@echo 'proving and building the tables program, about a minute the first time' >&2
-	@mkdir -p target && rt check tables >target/run.log 2>&1 || { cat target/run.log; exit 1; }
-	@target/bin/tables
+	@echo 'proving and building, which takes some minutes the first time' >&2
+	@tools/build-rust --example demonstration
+	@target/cargo/release/examples/demonstration
 
 # Lays the files of crates/ out as the gate wants them.
 fmt:

@@ -6,6 +6,8 @@
  */
 #include "strumok_mut.h"
 
+#include "check.h"
+
 #include <inttypes.h>
 #include <stdio.h>
 #include <string.h>
@@ -15,18 +17,6 @@
 #define ALPHA_INVERSE UINT64_C(0x47FCC6018A990000)
 
 enum { LENGTH = 32 };
-
-static int passed, failed;
-
-static void expect(int ok, const char *what)
-{
-    if (ok) {
-        passed++;
-    } else {
-        failed++;
-        printf("window_mut: not so: %s\n", what);
-    }
-}
 
 static int same_state(const struct strumok_state *a, const struct strumok_state *b)
 {
@@ -162,6 +152,5 @@ int main(void)
     test_one_word();
     test_portions();
     test_numbers();
-    printf("window_mut from C: %d checks passed, %d failed\n", passed, failed);
-    return failed != 0;
+    return report("window_mut");
 }

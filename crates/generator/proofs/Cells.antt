@@ -13,7 +13,7 @@ abbrev pub oneByOne : List ℕ → ℕ → ℕ → List ℕ
 oneByOne l k zero = []
 oneByOne l k (suc n) = at l k ∷ oneByOne l (suc k) n
 
-oneByOne-is : (l : List ℕ) (k n : ℕ) → k + n ≤ length l → oneByOne l k n ≡ take n (drop k l)
+pub oneByOne-is : (l : List ℕ) (k n : ℕ) → k + n ≤ length l → oneByOne l k n ≡ take n (drop k l)
 oneByOne-is l k zero h = refl
 oneByOne-is l k (suc n) h = rw (drop-cons l k 0 (omega arith)) (ap (λ (t : List ℕ). at l k ∷ t) (oneByOne-is l (suc k) n (omega arith)))
 

@@ -1,0 +1,111 @@
+-- The laws of the cipher program's input that specs/FramingLaws.antt states.
+-- Assumes nothing.
+use mathlib.Core.Path.{_≡_, refl, sym, ap, ap₂, _∙_}
+use mathlib.Core.Bool.{Bool, true, false, cond}
+use mathlib.Core.List.{List, [], _∷_, _++_, append-nil}
+use Prim.Native.Nat.{ℕ, _+_, _-_, _<_, _≤_}
+use native.Mathlib.Omega.{arith}
+use borrow.Author.Tests.{le-ltb}
+use lib.Dec.{ltb}
+use lib.ListN.{length, take, drop, length-append, length-take, length-drop}
+use lib.Seq.{take-length, drop-length}
+use Rattle.galois.specs.Words.{at}
+use Rattle.generator.specs.declared.State.{State}
+use Rattle.generator.proofs.Cells.{take-lt, drop-lt}
+use Rattle.keystream.specs.Keystream.{masked}
+use Rattle.keystream.proofs.Masked.{masked-append, masked-ext}
+use Rattle.loading.specs.Loading.{Bytes}
+use Rattle.strumok.specs.declared.Answer.{Answer}
+use Rattle.strumok.specs.Refusals.{limit, accepted, windowTest, returned, WellFormed}
+use Rattle.strumok.specs.Opening.{openedState, opened, openingTests, blank, Accepted, Leads}
+use Rattle.strumok.specs.Moving.{movedTo}
+use Rattle.strumok.specs.Applying.{keystreamByte, keystreamByteOf, withKeystream, windowTests, windowed, windowedBuffer}
+use Rattle.strumok.proofs.Tests.{answer-accepted, written-accepted}
+use Rattle.strumok.proofs.Portions.{accepts}
+use Rattle.strumok.proofs.MovingLaws.{moved-well-formed, position-moved, moved-to-leads, moving-laws}
+use Rattle.strumok.proofs.ApplyingLaws.{applying-laws}
+use Rattle.strumok.specs.Demands.{Reached}
+use Rattle.strumok.proofs.Chains.{reached-leads, reached-well-formed}
+use Rattle.framing.specs.Framing.{keyLengthIn, keyIn, ivIn, dataIn, started, dataOut, piecesOut, joined}
+use Rattle.framing.specs.FramingLaws.{FramingLaws}
+use Rattle.framing.proofs.Header.{header, parts}
+
+-- ---- a piece
+
+module _ (s : State) (piece : List ℕ) (ok : WellFormed s) (room : s .position + length piece ≤ limit) where
+  piece-accepted : returned (windowTests s (length piece) 0 (length piece)) ≡ accepted
+  piece-accepted =
+      accepts s (windowTest (length piece) 0 (length piece)) (length piece)
+      (record { well-formed = ok; fits = le-ltb (length piece) (0 + length piece) (omega arith); room = room })
+
+  piece-state : windowed s piece 0 (length piece) .state ≡ movedTo s (s .position + length piece)
+  piece-state = ap (λ (a : Answer). a .state) (sym (answer-accepted (windowTests s (length piece) 0 (length piece)) _ s piece-accepted refl))
+
+  piece-bytes : windowedBuffer s piece 0 (length piece) ≡ withKeystream s piece
+  piece-bytes =
+      sym (written-accepted (windowTests s (length piece) 0 (length piece)) _ piece piece-accepted refl)
+      ∙ (let e : 0 + length piece ≡ length piece = omega arith in rw (e, take-length piece, drop-length piece) (append-nil (withKeystream s piece)))
+
+-- ---- pieces, one after another
+
+module _ (key iv : List ℕ) where
+  pieces-joined : (s : State) (pieces : List (List ℕ)) → Leads key iv s → WellFormed s → s .position + length (joined pieces) ≤ limit
+      → joined (piecesOut s pieces) ≡ masked (keystreamByte key iv) (s .position) (joined pieces)
+  pieces-joined s [] l ok room = refl
+  pieces-joined s (piece ∷ pieces) l ok room =
+      let p = s .position in
+      let long = length-append piece (joined pieces) in
+      let here : p + length piece ≤ limit = omega (arith, room, long) in
+      let there = position-moved s (p + length piece) in
+      ap₂ _++_
+      (
+      piece-bytes s piece ok here
+      ∙ masked-ext (keystreamByteOf s) (keystreamByte key iv) p p piece (λ j h. applying-laws .keystream-of-key key iv s l (p + j))
+      )
+      (
+      ap (λ (t : State). joined (piecesOut t pieces)) (piece-state s piece ok here)
+      ∙ pieces-joined (movedTo s (p + length piece)) pieces (moved-to-leads key iv s (p + length piece) l) (moved-well-formed s (p + length piece) ok here)
+      (rw there (omega (arith, room, long)))
+      ∙ ap (λ (q : ℕ). masked (keystreamByte key iv) q (joined pieces)) there
+      )
+      ∙ sym (masked-append (keystreamByte key iv) p piece (joined pieces))
+
+-- ---- the whole input
+
+module _ (input : List ℕ) (bytes : Bytes input) where
+  part-bytes : (m a : ℕ) → Bytes (take m (drop a input))
+  part-bytes m a = take-lt (omega arith) m (drop a input) (drop-lt a input bytes)
+
+  key-bytes : Bytes (keyIn input)
+  key-bytes = by (ltb (length input) (1 + keyLengthIn input))
+    where
+      by : (b : Bool) → Bytes (cond b [] (take (keyLengthIn input) (drop 1 input)))
+      by true j = omega arith
+      by false j = part-bytes (keyLengthIn input) 1 j
+
+  module _ (e : opened (keyIn input) (ivIn input) .number ≡ accepted) where
+    accepts-both : Accepted (keyIn input) (ivIn input)
+    accepts-both = record { key-bytes = key-bytes; iv-bytes = part-bytes 32 (1 + keyLengthIn input); opens = e }
+
+    start : Reached (keyIn input) (ivIn input) [] (opened (keyIn input) (ivIn input) .state)
+    start = record { opening = accepts-both; accepts = tt; state = refl }
+
+    from-0 : opened (keyIn input) (ivIn input) .state .position ≡ 0
+    from-0 = rw e
+
+within : (m p : ℕ) (xs l : List ℕ) → p ≡ 0 → xs ≡ take m l → p + length xs ≤ m
+within m p xs l ep ex = rw (ep, ex) (omega (arith, length-take m l))
+
+pieces :
+    (input : List ℕ) (pieces : List (List ℕ)) → Bytes input → started input .number ≡ accepted → joined pieces ≡ take limit (dataIn input)
+    → joined (piecesOut (started input .state) pieces) ≡ dataOut input
+unfolding started dataOut
+pieces input ps bytes e all =
+    let s = opened (keyIn input) (ivIn input) .state in
+    let reached = start input bytes e in
+    let room = within limit (s .position) (joined ps) (dataIn input) (from-0 input bytes e) all in
+    pieces-joined (keyIn input) (ivIn input) s ps (reached-leads reached) (reached-well-formed reached) room
+    ∙ ap₂ (λ (p : ℕ) (xs : List ℕ). masked (keystreamByte (keyIn input) (ivIn input)) p xs) (from-0 input bytes e) all
+
+pub framing-laws : FramingLaws
+framing-laws = record { parts = parts; header = header; pieces = pieces }

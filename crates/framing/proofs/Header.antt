@@ -1,0 +1,138 @@
+-- The header of the cipher program's input: its parts, and what is refused before the data.
+-- Assumes nothing.
+use mathlib.Core.Path.{_≡_, refl, sym, ap, ap₂, _∙_}
+use mathlib.Core.Logic.{_⊎_, inl, inr}
+use mathlib.Core.Bool.{Bool, true, false}
+use mathlib.Core.List.{List, [], _∷_, _++_}
+use Prim.Native.Nat.{ℕ, _+_, _-_, _<_, _≤_, min}
+use native.Mathlib.Nat.{min-eq-left, min-eq-right}
+use native.Mathlib.Omega.{arith}
+use borrow.Author.Tests.{lt-ltb, le-ltb, ltb-true, ltb-false}
+use lib.Dec.{ltb}
+use lib.ListN.{length, take, drop, length-take, length-drop, take-append-drop}
+use lib.Seq.{take-all, drop-drop, drop-cons}
+use Rattle.strumok.specs.Refusals.{accepted, keyLength, ivLength, keyLengthTest, ivLengthTest}
+use Rattle.strumok.specs.Opening.{blank, openedState, openingTests, opened}
+use Rattle.strumok.specs.Demands.{NoneApplies, RefusesExactly}
+use Rattle.strumok.proofs.Lines.{Decides, neither, is-not, refuses-exactly}
+use Rattle.framing.specs.Framing.{keyLengthIn, keyIn, ivIn, dataIn, started}
+use Rattle.framing.specs.FramingLaws.{headerLines}
+
+-- below or not
+below-or-not : (a b : ℕ) → (a < b) ⊎ (b ≤ a)
+below-or-not a b = by (ltb a b) refl
+  where
+    by : (t : Bool) → ltb a b ≡ t → (a < b) ⊎ (b ≤ a)
+    by true e = inl (ltb-true a b e)
+    by false e = inr (ltb-false a b e)
+
+-- the first m of a list, counted to its end at most
+take-min : (m r : ℕ) (l : List ℕ) → (length l ≤ m → r ≡ length l) → (m ≤ length l → r ≡ m) → take r l ≡ take m l
+take-min m r l ends within = by (below-or-not (length l) m)
+  where
+    by : (length l < m) ⊎ (m ≤ length l) → take r l ≡ take m l
+    by (inl h) = take-all r l (omega (arith, ends (omega arith))) ∙ sym (take-all m l (omega arith))
+    by (inr h) = ap (λ (i : ℕ). take i l) (within h)
+
+module _ (input : List ℕ) where
+  abbrev n : ℕ
+  n = length input
+
+  abbrev k : ℕ
+  k = keyLengthIn input
+
+  -- ---- the key
+
+  key-short : n < 1 + k → keyIn input ≡ []
+  key-short h = rw (lt-ltb n (1 + k) h)
+
+  key-whole : 1 + k ≤ n → keyIn input ≡ take k (drop 1 input)
+  key-whole h = rw (le-ltb n (1 + k) h)
+
+  key-whole-length : 1 + k ≤ n → length (keyIn input) ≡ k
+  key-whole-length h = ap length (key-whole h) ∙ simp (length-take, length-drop) (min-eq-left (omega arith))
+
+  -- ---- what the code of `start` opens
+
+  pub cut-short : (key iv : List ℕ) → length key ≡ 0 → n < 1 + k → opened key iv ≡ started input
+  unfolding started
+  cut-short [] iv e h = rw (key-short h) refl
+  cut-short (x ∷ key) iv e h = absurd (omega (arith, e))
+
+  pub whole : {keyEnd ivEnd : ℕ} → keyEnd ≡ 1 + k → keyEnd ≤ n → ivEnd ≡ min n (keyEnd + 32)
+      → opened (take (keyEnd - 1) (drop 1 input)) (take (ivEnd - keyEnd) (drop keyEnd input)) ≡ started input
+  unfolding started
+  whole {keyEnd} {ivEnd} e h i =
+      let long = length-drop keyEnd input in
+      let count : keyEnd - 1 ≡ k = omega arith in
+      ap₂ opened
+      (ap (λ (j : ℕ). take j (drop 1 input)) count ∙ sym (key-whole (omega arith)))
+      (
+      take-min 32 (ivEnd - keyEnd) (drop keyEnd input)
+      (λ short. let all = i ∙ min-eq-left (omega (arith, long, short)) in omega (arith, long, all))
+      (λ enough. let some = i ∙ min-eq-right (omega (arith, long, enough)) in omega (arith, some))
+      ∙ ap (λ (j : ℕ). take 32 (drop j input)) e
+      )
+
+  -- ---- each test computes whether its line applies
+
+  abbrev NoKey : Type 0
+  NoKey = (n < 1 + k) ⊎ ((k ≡ 32 → ⊥) × (k ≡ 64 → ⊥))
+
+  abbrev Other : Type 0
+  Other = (length (keyIn input) ≡ 32 → ⊥) × (length (keyIn input) ≡ 64 → ⊥)
+
+  short-other : n < 1 + k → Other
+  short-other h = let none = ap length (key-short h) in (λ e. absurd (omega (arith, none, e)), λ e. absurd (omega (arith, none, e)))
+
+  other-no-key : Other → NoKey
+  other-no-key o = by (below-or-not n (1 + k))
+    where
+      by : (n < 1 + k) ⊎ (1 + k ≤ n) → NoKey
+      by (inl h) = inl h
+      by (inr h) = inr (λ e. o .0 (key-whole-length h ∙ e), λ e. o .1 (key-whole-length h ∙ e))
+
+  no-key-other : NoKey → Other
+  no-key-other (inl h) = short-other h
+  no-key-other (inr o) = by (below-or-not n (1 + k))
+    where
+      by : (n < 1 + k) ⊎ (1 + k ≤ n) → Other
+      by (inl h) = short-other h
+      by (inr h) = (λ e. o .0 (sym (key-whole-length h) ∙ e), λ e. o .1 (sym (key-whole-length h) ∙ e))
+
+  line-1 : Decides (keyLengthTest (keyIn input)) (record { number = keyLength; When = NoKey })
+  line-1 = let d = neither 1 (length (keyIn input)) 32 64 in record { number = refl; yes = λ e. other-no-key (d .yes e); no = λ e w. d .no e (no-key-other w) }
+
+  iv-length : length (ivIn input) ≡ min 32 (n - (1 + k))
+  iv-length = simp (length-take, length-drop) refl
+
+  line-2 : Decides (ivLengthTest (ivIn input)) (record { number = ivLength; When = n < 33 + k })
+  line-2 = let d = is-not 2 (length (ivIn input)) 32 in record { number = refl; yes = λ e. yes (d .yes e) (below-or-not n (33 + k)); no = λ e w. d .no e (no w) }
+    where
+      yes : (length (ivIn input) ≡ 32 → ⊥) → (n < 33 + k) ⊎ (33 + k ≤ n) → n < 33 + k
+      yes o (inl h) = h
+      yes o (inr h) = absurd (o (iv-length ∙ min-eq-left (omega arith)))
+
+      no : n < 33 + k → length (ivIn input) ≡ 32 → ⊥
+      no h e = absurd (omega (arith, iv-length, e))
+
+  pub header : RefusesExactly (started input) (headerLines input) blank
+  unfolding started
+  header = refuses-exactly (openingTests (keyIn input) (ivIn input)) (headerLines input) (openedState (keyIn input) (ivIn input)) blank tt (line-1, λ t1. (line-2, λ t2. tt))
+
+  -- ---- the parts of an input that is not refused
+
+  pub parts : started input .number ≡ accepted → length (keyIn input) ∷ (keyIn input ++ (ivIn input ++ dataIn input)) ≡ input
+  parts e = by (below-or-not n (33 + k))
+    where
+      none : NoneApplies (headerLines input)
+      none = header .accepts-only e
+
+      by : (n < 33 + k) ⊎ (33 + k ≤ n) → length (keyIn input) ∷ (keyIn input ++ (ivIn input ++ dataIn input)) ≡ input
+      by (inl h) = absurd (none .1 .0 h)
+      by (inr h) =
+          let has : 1 + k ≤ n = omega arith in
+          let end : 33 + k ≡ 1 + k + 32 = omega arith in
+          let from-iv : ivIn input ++ dataIn input ≡ drop k (drop 1 input) =
+          ap (λ (l : List ℕ). ivIn input ++ l) (ap (λ (j : ℕ). drop j input) end ∙ sym (drop-drop 32 (1 + k) input)) ∙ take-append-drop 32 (drop (1 + k) input) ∙ sym (drop-drop k 1 input) in
+          ap₂ _∷_ (key-whole-length has) (ap₂ _++_ (key-whole has) from-iv ∙ take-append-drop k (drop 1 input)) ∙ sym (drop-cons input 0 0 (omega arith))

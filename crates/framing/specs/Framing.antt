@@ -1,0 +1,48 @@
+-- Document 01 on the cipher program: "one byte giving the key length, the key, 32 IV bytes, data to the end". The input is a list of bytes.
+-- Assumes nothing.
+use mathlib.Core.Bool.{cond}
+use mathlib.Core.List.{List, [], _∷_, _++_}
+use Prim.Native.Nat.{ℕ, _+_}
+use lib.Dec.{ltb}
+use lib.ListN.{length, take, drop}
+use Rattle.galois.specs.Words.{at}
+use Rattle.generator.specs.declared.State.{State}
+use Rattle.keystream.specs.Keystream.{masked}
+use Rattle.strumok.specs.declared.Answer.{Answer}
+use Rattle.strumok.specs.Refusals.{limit}
+use Rattle.strumok.specs.Opening.{opened}
+use Rattle.strumok.specs.Applying.{keystreamByte, windowed, windowedBuffer}
+
+-- "one byte giving the key length": 0 where there is none
+abbrev pub keyLengthIn : (input : List ℕ) → ℕ
+keyLengthIn input = at input 0
+
+-- "the key"; no bytes where the input is too short for it, so that it "counts as 1"
+abbrev pub keyIn : (input : List ℕ) → List ℕ
+keyIn input = cond (ltb (length input) (1 + keyLengthIn input)) [] (take (keyLengthIn input) (drop 1 input))
+
+-- "32 IV bytes"; fewer where the input is "too short for the IV", which then counts "as 2"
+abbrev pub ivIn : (input : List ℕ) → List ℕ
+ivIn input = take 32 (drop (1 + keyLengthIn input) input)
+
+-- "data to the end"
+abbrev pub dataIn : (input : List ℕ) → List ℕ
+dataIn input = drop (33 + keyLengthIn input) input
+
+-- the state that the data begin with, or the refusal before them
+unfoldable pub started : (input : List ℕ) → Answer
+started input = opened (keyIn input) (ivIn input)
+
+-- "It writes the data with the keystream applied. .. At the limit it stops after 16,777,216 data bytes."
+unfoldable pub dataOut : (input : List ℕ) → List ℕ
+dataOut input = masked (keystreamByte (keyIn input) (ivIn input)) 0 (take limit (dataIn input))
+
+-- pieces of data, each worked over by the window call with the state that the call before left
+abbrev pub piecesOut : State → (pieces : List (List ℕ)) → List (List ℕ)
+piecesOut s [] = []
+piecesOut s (piece ∷ pieces) = windowedBuffer s piece 0 (length piece) ∷ piecesOut (windowed s piece 0 (length piece) .state) pieces
+
+-- pieces one after another
+abbrev pub joined : (pieces : List (List ℕ)) → List ℕ
+joined [] = []
+joined (piece ∷ pieces) = piece ++ joined pieces

@@ -1,0 +1,29 @@
+-- What is proved of the cipher program's input: proofs/FramingLaws.antt has `framing-laws : FramingLaws`.
+-- Assumes nothing.
+use mathlib.Core.Path.{_≡_}
+use mathlib.Core.Logic.{_⊎_}
+use mathlib.Core.List.{List, [], _∷_, _++_}
+use Prim.Native.Nat.{ℕ, _+_, _<_}
+use lib.ListN.{length, take}
+use Rattle.loading.specs.Loading.{Bytes}
+use Rattle.strumok.specs.Refusals.{limit, accepted, keyLength, ivLength}
+use Rattle.strumok.specs.Opening.{blank}
+use Rattle.strumok.specs.Demands.{Line, RefusesExactly}
+use Rattle.framing.specs.Framing.{keyLengthIn, keyIn, ivIn, dataIn, started, dataOut, piecesOut, joined}
+
+-- "Input too short for the key counts as 1, too short for the IV as 2", beside opening's own 1 for a key length
+abbrev pub headerLines : (input : List ℕ) → List Line
+headerLines input =
+    record { number = keyLength; When = (length input < 1 + keyLengthIn input) ⊎ ((keyLengthIn input ≡ 32 → ⊥) × (keyLengthIn input ≡ 64 → ⊥)) }
+    ∷ record { number = ivLength; When = length input < 33 + keyLengthIn input }
+    ∷ []
+
+pub record FramingLaws : Type 0 where
+  -- "one byte giving the key length, the key, 32 IV bytes, data to the end"
+  pub parts : (input : List ℕ) → started input .number ≡ accepted → length (keyIn input) ∷ (keyIn input ++ (ivIn input ++ dataIn input)) ≡ input
+  -- what is refused before the data, with which number; empty input is too short for the key
+  pub header : (input : List ℕ) → RefusesExactly (started input) (headerLines input) blank
+  -- however the data up to the limit are divided into pieces, what the calls leave in them is the data with the keystream applied
+  pub pieces :
+      (input : List ℕ) (pieces : List (List ℕ)) → Bytes input → started input .number ≡ accepted → joined pieces ≡ take limit (dataIn input)
+      → joined (piecesOut (started input .state) pieces) ≡ dataOut input

@@ -1,0 +1,66 @@
+// The cipher program's input: the state that its header opens, and how much of the data to take at a time.
+ghost use mathlib.Core.Path.{_≡_};
+ghost use Prim.Native.Nat.{_+_, _-_, _<_, _≤_, min};
+ghost use Rattle.strumok.specs.Refusals.{limit};
+ghost use Rattle.framing.specs.Framing.{started};
+use generator::State;
+use strumok::Answer;
+use strumok::open;
+use strumok::refusals;
+
+// The bytes of an IV.
+pub const IV_BYTES: usize = 32;
+
+// The bytes of the longest header: one for the key's length, 255 of the key, and the IV.
+pub const LONGEST_HEADER: usize = 288;
+
+// A byte as a count.
+fn wide(b: u8) -> usize
+    ensures { λ r. ⌜ r ≡ b ⌝ }
+    ensures { λ r. ⌜ r < 256 ⌝ }
+{
+    b as usize
+}
+
+fn least(a: usize, b: usize) -> usize
+    ensures { λ r. ⌜ r ≡ min a b ⌝ }
+    ensures { λ r. ⌜ r ≤ a ⌝ }
+{
+    if a < b { a } else { b }
+}
+
+// How many bytes come after a header's first byte, which gives the key's length.
+pub fn header_rest(first: u8) -> usize
+    ensures { λ r. ⌜ r ≡ first + 32 ⌝ }
+    ensures { λ r. ⌜ r < 288 ⌝ }
+{
+    wide(first) + IV_BYTES
+}
+
+// The state that a header opens; or a refusal, with the blank state. The header may be cut short.
+pub fn start(header: &[u8]) -> Answer
+    ensures { λ r. ⌜ r ≡ started (now (header .entry)) ⌝ }
+{
+    let n = header.len();
+    if n == 0 {
+        return open(header, header);
+    }
+    let key_end = 1 + wide(header[0]);
+    if n < key_end {
+        return open(&header[..0], &header[..0]);
+    }
+    let iv_end = least(n, key_end + IV_BYTES);
+    open(&header[1..key_end], &header[key_end..iv_end])
+}
+
+// How many bytes of a buffer of len the next piece may fill: no more than are left up to the last position.
+pub fn room(s: State, len: usize) -> usize
+    ensures { λ r. ⌜ r ≡ min len (limit - s .position) ⌝ }
+    ensures { λ r. ⌜ r ≤ len ⌝ }
+{
+    let p = s.position;
+    if p > refusals::LIMIT {
+        return 0;
+    }
+    least(len, (refusals::LIMIT - p) as usize)
+}

@@ -1,0 +1,2 @@
+-- The proofs of the calls for C beside those of the functions.
+pub mod TwentyWords

@@ -1,0 +1,19 @@
+-- `strumok_c::state_in` meets its contract: the words read one by one.
+-- Assumes nothing.
+use Rattle.strumok_c.proofs.TwentyWords.{state-read}
+use borrow.Author.Needs.{needs}
+use Rattle.strumok_c.proofs.state_in.Statement.{statement}
+use Rattle.strumok_c.proofs.state_in.Tie as tie
+
+returns : tie.Need-returns
+returns c = state-read (c .args .t1) (search needs)
+
+pub state-in-spec : {M : Type 1} → statement M
+state-in-spec =
+    tie.close
+    (tie.spec
+    (λ c. search needs) (λ c. search needs) (λ c. search needs) (λ c. search needs) (λ c. search needs) (λ c. search needs)
+    (λ c. search needs) (λ c. search needs) (λ c. search needs) (λ c. search needs) (λ c. search needs) (λ c. search needs)
+    (λ c. search needs) (λ c. search needs) (λ c. search needs) (λ c. search needs) (λ c. search needs) (λ c. search needs)
+    (λ c. search needs) (λ c. search needs)
+    returns)

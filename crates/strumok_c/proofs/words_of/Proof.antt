@@ -1,0 +1,18 @@
+-- `strumok_c::words_of` meets its contract: the cells read one by one.
+-- Assumes nothing.
+use Rattle.strumok_c.proofs.TwentyWords.{words-read}
+use borrow.Author.Needs.{needs}
+use Rattle.strumok_c.proofs.words_of.Statement.{statement}
+use Rattle.strumok_c.proofs.words_of.Tie as tie
+
+returns : tie.Need-returns
+returns c = words-read (c .before .args .s) (search needs)
+
+pub words-of-spec : {M : Type 1} → statement M
+words-of-spec =
+    tie.close
+    (tie.spec
+    (λ c. search needs) (λ c. search needs) (λ c. search needs) (λ c. search needs) (λ c. search needs) (λ c. search needs)
+    (λ c. search needs) (λ c. search needs) (λ c. search needs) (λ c. search needs) (λ c. search needs) (λ c. search needs)
+    (λ c. search needs) (λ c. search needs) (λ c. search needs) (λ c. search needs)
+    returns)

@@ -1,0 +1,2 @@
+-- The definitions that the contracts of the calls for C cite.
+pub mod TwentyWords

@@ -1,0 +1,104 @@
+/*
+ * The stream cipher Strumok (DSTU 8845:2019) for C: the functions that target/staticlib/libstrumok_c.a defines, which
+ * `rt staticlib strumok_c` proves and builds for x86-64.
+ *
+ * strumok_open makes a state from a key and an IV, at position 0. strumok_apply and strumok_window apply the keystream from the state's
+ * position on, in portions of any length, and leave the state behind the last byte; enciphering and deciphering are the same call.
+ * strumok_move goes to another byte, either way. strumok_check tells whether a stored state belongs to an IV, and hands back its key.
+ *
+ * Every call returns STRUMOK_ACCEPTED or the number of a refusal: the lowest that applies of those listed with the call, which are tested
+ * in that order. A refused opening writes the blank state, twenty zeros; any other refusal leaves the state and all buffers as they were.
+ * Lengths, distances and states need not be looked at beforehand: each value has its answer.
+ *
+ * All that is proved rests on what C does not check:
+ *   - a state is twenty words, aligned as a uint64_t is;
+ *   - no pointer is null, also where its length is 0, and each buffer has the bytes that its length says;
+ *   - the state and the buffers of one call do not overlap (to work in place there is strumok_window);
+ *   - nothing else touches them during the call.
+ *
+ * A state is as secret as its key: strumok_check turns the one into the other. So is a key target. Secrecy of timing is not claimed: tables
+ * are indexed by bytes that are secret. No call wipes what it leaves on the stack.
+ *
+ * Stack, measured on x86-64: 22 KiB for each call, most of it for tables, and 41 KiB for strumok_move where the distance is negative.
+ */
+#ifndef STRUMOK_H
+#define STRUMOK_H
+
+#include <stddef.h>
+#include <stdint.h>
+
+#ifdef __cplusplus
+extern "C" {
+#endif
+
+/* A state is twenty words: the cells s0 .. s15 are words 0 to 15, and these follow. */
+#define STRUMOK_STATE_WORDS 20
+#define STRUMOK_R1 16
+#define STRUMOK_R2 17
+#define STRUMOK_SIZE_MARK 18 /* 256 or 512, the bits of the key */
+#define STRUMOK_POSITION 19  /* the byte position, 0 to STRUMOK_LIMIT */
+
+/* The last position. */
+#define STRUMOK_LIMIT 16777216
+
+/* What a call returns. */
+enum {
+    STRUMOK_ACCEPTED = 0,
+    STRUMOK_REFUSED_KEY_LENGTH = 1,         /* the key length is neither 32 nor 64 */
+    STRUMOK_REFUSED_IV_LENGTH = 2,          /* the IV length is not 32 */
+    STRUMOK_REFUSED_SIZE_MARK = 3,          /* the size mark is neither 256 nor 512 */
+    STRUMOK_REFUSED_POSITION_ABOVE = 4,     /* the position is above 16777216 */
+    STRUMOK_REFUSED_TARGET_SHORTER = 5,     /* the target is shorter than the source */
+    STRUMOK_REFUSED_WINDOW_PAST_END = 6,    /* start + count, as whole numbers, is above the buffer length */
+    STRUMOK_REFUSED_NEW_POSITION_ABOVE = 7, /* the new position would be above 16777216 */
+    STRUMOK_REFUSED_NEW_POSITION_BELOW = 8, /* the new position would be below 0 */
+    STRUMOK_REFUSED_KEY_TARGET_LENGTH = 9,  /* the length of the key target is not an eighth of the size mark */
+    STRUMOK_REFUSED_NO_KEY_LEADS = 10       /* no key of that size with that IV leads to this state */
+};
+
+/*
+ * Opens a state, at position 0, from a key of 32 or 64 bytes and an IV of 32. Both stand with their highest word first, each word most
+ * significant byte first. All twenty words of the state are written, whatever they held.
+ *
+ * Refusals, with the blank state: 1, 2. Every other call refuses the blank state.
+ */
+uint64_t strumok_open(const uint8_t *key, size_t key_len, const uint8_t *iv, size_t iv_len, uint64_t state[STRUMOK_STATE_WORDS]);
+
+/*
+ * Writes the source bytes, each xor its keystream byte, to the front of the target, and leaves the state source_len bytes further on.
+ * Later bytes of the target keep their values. source_len may be 0.
+ *
+ * Refusals, with state and target as they were: 3, 4, 5, 7.
+ */
+uint64_t strumok_apply(uint64_t state[STRUMOK_STATE_WORDS], const uint8_t *source, size_t source_len, uint8_t *target, size_t target_len);
+
+/*
+ * Applies the keystream in place to the count bytes of the buffer from start on, and leaves the state count bytes further on. The other
+ * bytes of the buffer keep their values. count may be 0.
+ *
+ * Refusals, with state and buffer as they were: 3, 4, 6, 7.
+ */
+uint64_t strumok_window(uint64_t state[STRUMOK_STATE_WORDS], uint8_t *buffer, size_t buffer_len, size_t start, size_t count);
+
+/*
+ * Moves the state by a distance in bytes, towards the start where that is negative. The new position may be 0 or 16777216. It walks word by
+ * word, so its time grows with the distance.
+ *
+ * Refusals, with the state as it was: 3, 4, 7, 8.
+ */
+uint64_t strumok_move(uint64_t state[STRUMOK_STATE_WORDS], int64_t distance);
+
+/*
+ * Checks a stored state against an IV: it is accepted exactly when some key of its size, opened with that IV, leads to that very state. There
+ * is then only one such key, and its bytes are written to key, 32 bytes for size mark 256 and 64 for 512. The state is only read. It walks
+ * back to the start, so its time grows with the position.
+ *
+ * Refusals, with the key target as it was: 2, 3, 4, 9, 10.
+ */
+uint64_t strumok_check(const uint64_t state[STRUMOK_STATE_WORDS], const uint8_t *iv, size_t iv_len, uint8_t *key, size_t key_len);
+
+#ifdef __cplusplus
+}
+#endif
+
+#endif

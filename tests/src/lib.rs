@@ -1,0 +1,14 @@
+//! Another implementation of the stream cipher Strumok (DSTU 8845:2019), written from the cipher's
+//! description alone and independent of the proved library, which the tests run beside it.
+//!
+//! - [`field`]: the two fields, α and T, by their rules, and the tables made from them;
+//! - [`cipher`]: registers, steps forward and back, loading, keystream words;
+//! - [`calls`]: the five calls with their refusals, and what the cipher program must write;
+//! - [`vectors`]: the published vectors, and the list that the program `vectors` prints;
+//! - [`random`]: the seeded generator that makes the tests' inputs.
+
+pub mod calls;
+pub mod cipher;
+pub mod field;
+pub mod random;
+pub mod vectors;
