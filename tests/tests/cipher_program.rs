@@ -19,7 +19,10 @@ fn program() -> Command {
     let built = Path::new(env!("CARGO_MANIFEST_DIR")).join("../target/bin/cipher");
     let program = env::var_os("STRUMOK_CIPHER").map_or(built, PathBuf::from);
     let path = program.display();
-    assert!(program.is_file(), "the cipher program {path} is missing");
+    assert!(
+        program.is_file(),
+        "the cipher program {path} is missing; `rt check cipher` makes it"
+    );
     Command::new(program)
 }
 

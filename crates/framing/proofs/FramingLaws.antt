@@ -3,13 +3,12 @@
 use mathlib.Core.Path.{_≡_, refl, sym, ap, ap₂, _∙_}
 use mathlib.Core.Bool.{Bool, true, false, cond}
 use mathlib.Core.List.{List, [], _∷_, _++_, append-nil}
-use Prim.Native.Nat.{ℕ, _+_, _-_, _<_, _≤_}
+use Prim.Native.Nat.{ℕ, _+_, _≤_}
 use native.Mathlib.Omega.{arith}
 use borrow.Author.Tests.{le-ltb}
 use lib.Dec.{ltb}
-use lib.ListN.{length, take, drop, length-append, length-take, length-drop}
+use lib.ListN.{length, take, drop, length-append, length-take}
 use lib.Seq.{take-length, drop-length}
-use Rattle.galois.specs.Words.{at}
 use Rattle.generator.specs.declared.State.{State}
 use Rattle.generator.proofs.Cells.{take-lt, drop-lt}
 use Rattle.keystream.specs.Keystream.{masked}
@@ -17,12 +16,12 @@ use Rattle.keystream.proofs.Masked.{masked-append, masked-ext}
 use Rattle.loading.specs.Loading.{Bytes}
 use Rattle.strumok.specs.declared.Answer.{Answer}
 use Rattle.strumok.specs.Refusals.{limit, accepted, windowTest, returned, WellFormed}
-use Rattle.strumok.specs.Opening.{openedState, opened, openingTests, blank, Accepted, Leads}
+use Rattle.strumok.specs.Opening.{opened, Accepted, Leads}
 use Rattle.strumok.specs.Moving.{movedTo}
 use Rattle.strumok.specs.Applying.{keystreamByte, keystreamByteOf, withKeystream, windowTests, windowed, windowedBuffer}
 use Rattle.strumok.proofs.Tests.{answer-accepted, written-accepted}
 use Rattle.strumok.proofs.Portions.{accepts}
-use Rattle.strumok.proofs.MovingLaws.{moved-well-formed, position-moved, moved-to-leads, moving-laws}
+use Rattle.strumok.proofs.MovingLaws.{moved-well-formed, position-moved, moved-to-leads}
 use Rattle.strumok.proofs.ApplyingLaws.{applying-laws}
 use Rattle.strumok.specs.Demands.{Reached}
 use Rattle.strumok.proofs.Chains.{reached-leads, reached-well-formed}

@@ -133,6 +133,7 @@ module _ (input : List ℕ) where
       by (inr h) =
           let has : 1 + k ≤ n = omega arith in
           let end : 33 + k ≡ 1 + k + 32 = omega arith in
+          let after-iv : dataIn input ≡ drop 32 (drop (1 + k) input) = ap (λ (j : ℕ). drop j input) end ∙ sym (drop-drop 32 (1 + k) input) in
           let from-iv : ivIn input ++ dataIn input ≡ drop k (drop 1 input) =
-          ap (λ (l : List ℕ). ivIn input ++ l) (ap (λ (j : ℕ). drop j input) end ∙ sym (drop-drop 32 (1 + k) input)) ∙ take-append-drop 32 (drop (1 + k) input) ∙ sym (drop-drop k 1 input) in
+          ap (λ (l : List ℕ). ivIn input ++ l) after-iv ∙ take-append-drop 32 (drop (1 + k) input) ∙ sym (drop-drop k 1 input) in
           ap₂ _∷_ (key-whole-length has) (ap₂ _++_ (key-whole has) from-iv ∙ take-append-drop k (drop 1 input)) ∙ sym (drop-cons input 0 0 (omega arith))

@@ -22,6 +22,7 @@ fn wide(b: u8) -> usize
     b as usize
 }
 
+// The smaller of the two.
 fn least(a: usize, b: usize) -> usize
     ensures { λ r. ⌜ r ≡ min a b ⌝ }
     ensures { λ r. ⌜ r ≤ a ⌝ }
