@@ -103,6 +103,16 @@ fn headers_cut_short() {
 }
 
 #[test]
+fn inputs_that_the_gate_runs() {
+    let crates = Path::new(env!("CARGO_MANIFEST_DIR")).join("../crates");
+    for program in ["cipher", "cipher_refusal"] {
+        let read = |name| fs::read(crates.join(program).join(name)).expect(name);
+        let must = Cipher::new().cipher_program(&read("stdin"));
+        assert!(must == read("stdout"), "crates/{program}/stdout");
+    }
+}
+
+#[test]
 fn data_of_many_lengths() {
     let (cipher, mut random) = (Cipher::new(), Random::new(seed()));
     for key_len in [0, 31, 32, 33, 64, 255] {

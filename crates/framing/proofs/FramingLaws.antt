@@ -27,7 +27,7 @@ use Rattle.strumok.specs.Demands.{Reached}
 use Rattle.strumok.proofs.Chains.{reached-leads, reached-well-formed}
 use Rattle.framing.specs.Framing.{keyLengthIn, keyIn, ivIn, dataIn, started, dataOut, piecesOut, joined}
 use Rattle.framing.specs.FramingLaws.{FramingLaws}
-use Rattle.framing.proofs.Header.{header, parts}
+use Rattle.framing.proofs.Header.{header, header-alone, parts}
 
 -- ---- a piece
 
@@ -107,4 +107,4 @@ pieces input ps bytes e all =
     ∙ ap₂ (λ (p : ℕ) (xs : List ℕ). masked (keystreamByte (keyIn input) (ivIn input)) p xs) (from-0 input bytes e) all
 
 pub framing-laws : FramingLaws
-framing-laws = record { parts = parts; header = header; pieces = pieces }
+framing-laws = record { parts = parts; header = header; header-alone = header-alone; pieces = pieces }

@@ -9,8 +9,8 @@ use native.Mathlib.Nat.{min-eq-left, min-eq-right}
 use native.Mathlib.Omega.{arith}
 use borrow.Author.Tests.{lt-ltb, le-ltb, ltb-true, ltb-false}
 use lib.Dec.{ltb}
-use lib.ListN.{length, take, drop, length-take, length-drop, take-append-drop}
-use lib.Seq.{take-all, drop-drop, drop-cons}
+use lib.ListN.{length, take, drop, length-append, length-take, length-drop, take-append-drop, List·getD-append}
+use lib.Seq.{length-take-le, take-all, take-append-le, drop-append-le, getD-take, drop-drop, drop-cons}
 use Rattle.strumok.specs.Refusals.{accepted, keyLength, ivLength, keyLengthTest, ivLengthTest}
 use Rattle.strumok.specs.Opening.{blank, openedState, openingTests, opened}
 use Rattle.strumok.specs.Demands.{NoneApplies, RefusesExactly}
@@ -137,3 +137,30 @@ module _ (input : List ℕ) where
           let from-iv : ivIn input ++ dataIn input ≡ drop k (drop 1 input) =
           ap (λ (l : List ℕ). ivIn input ++ l) after-iv ∙ take-append-drop 32 (drop (1 + k) input) ∙ sym (drop-drop k 1 input) in
           ap₂ _∷_ (key-whole-length has) (ap₂ _++_ (key-whole has) from-iv ∙ take-append-drop k (drop 1 input)) ∙ sym (drop-cons input 0 0 (omega arith))
+
+-- ---- the header alone
+
+front-part : (m a : ℕ) (l r : List ℕ) → a + m ≤ length l → take m (drop a (l ++ r)) ≡ take m (drop a l)
+front-part m a l r h = ap (take m) (drop-append-le a l r (omega arith)) ∙ take-append-le m (drop a l) r (omega (arith, length-drop a l))
+
+-- what follows a header does not matter
+data-after-header : (l r : List ℕ) → 33 + keyLengthIn l ≤ length l → started (l ++ r) ≡ started l
+unfolding started
+data-after-header l r h =
+    let k = keyLengthIn l in
+    let same : keyLengthIn (l ++ r) ≡ k = List·getD-append l r 0 0 (omega arith) in
+    let key : keyIn (l ++ r) ≡ keyIn l =
+    key-whole (l ++ r) (omega (arith, same, length-append l r)) ∙ ap (λ (j : ℕ). take j (drop 1 (l ++ r))) same
+    ∙ front-part k 1 l r (omega arith) ∙ sym (key-whole l (omega arith)) in
+    ap₂ opened key (ap (λ (j : ℕ). take 32 (drop (1 + j) (l ++ r))) same ∙ front-part 32 (1 + k) l r (omega arith))
+
+pub header-alone : (input : List ℕ) → started (take (33 + keyLengthIn input) input) ≡ started input
+header-alone input = by (below-or-not (length input) (33 + keyLengthIn input))
+  where
+    by : (length input < 33 + keyLengthIn input) ⊎ (33 + keyLengthIn input ≤ length input) → started (take (33 + keyLengthIn input) input) ≡ started input
+    by (inl h) = ap started (take-all (33 + keyLengthIn input) input (omega arith))
+    by (inr h) =
+        let header = take (33 + keyLengthIn input) input in
+        let same : keyLengthIn header ≡ keyLengthIn input = getD-take (33 + keyLengthIn input) input 0 0 (omega arith) in
+        sym (data-after-header header (drop (33 + keyLengthIn input) input) (omega (arith, same, length-take-le (33 + keyLengthIn input) input h)))
+        ∙ ap started (take-append-drop (33 + keyLengthIn input) input)
