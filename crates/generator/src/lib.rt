@@ -1,7 +1,9 @@
 // The state of the cipher: one step forward and one back, ordinary or of initialisation, and walks of n steps. Tables are lent.
 ghost use mathlib.Core.Path.{_≡_};
 ghost use mathlib.Core.List.{[], _∷_, _++_};
+ghost use Prim.Native.Nat.{_*_};
 ghost use lib.ListN.{drop, take};
+ghost use Rattle.generator.specs.declared.Kind.the-variants.{Ordinary};
 ghost use Rattle.generator.specs.Registers.{F, difference, mixed, walked};
 ghost use Rattle.generator.specs.Functions.{feedbackBy, nextBy, previousBy, stepBy, stepBackBy};
 use galois::alpha_inverse_times_by_table;
@@ -172,10 +174,92 @@ pub fn step_back(
     }
 }
 
+// ---- ordinary steps, eight in a straight line
+
+// Each function here is called in one place alone, so that the compiler makes one straight line of eight steps of it; its steps are ordinary, so
+// that none of them tests its kind.
+
+// Eight ordinary steps.
+fn eight_steps(
+    s: State,
+    tables: &[[u64; 256]; 8],
+    alpha: &[u64; 256],
+    inverse: &[u64; 256],
+) -> State
+    ensures { λ r. ⌜ r ≡ walked (nextBy (now (tables .entry)) (now (alpha .entry)) (now (inverse .entry)) Ordinary) 8 s ⌝ }
+{
+    let a = step(Kind::Ordinary, s, tables, alpha, inverse);
+    let b = step(Kind::Ordinary, a.state, tables, alpha, inverse);
+    let c = step(Kind::Ordinary, b.state, tables, alpha, inverse);
+    let d = step(Kind::Ordinary, c.state, tables, alpha, inverse);
+    let e = step(Kind::Ordinary, d.state, tables, alpha, inverse);
+    let f = step(Kind::Ordinary, e.state, tables, alpha, inverse);
+    let g = step(Kind::Ordinary, f.state, tables, alpha, inverse);
+    let h = step(Kind::Ordinary, g.state, tables, alpha, inverse);
+    h.state
+}
+
+// n times eight ordinary steps.
+fn steps_by_eight(
+    s: State,
+    n: u64,
+    tables: &[[u64; 256]; 8],
+    alpha: &[u64; 256],
+    inverse: &[u64; 256],
+) -> State
+    ensures { λ r. ⌜ r ≡ walked (nextBy (now (tables .entry)) (now (alpha .entry)) (now (inverse .entry)) Ordinary) (8 * n) s ⌝ }
+{
+    let mut t = s;
+    let mut lines: u64 = 0;
+    while lines < n {
+        t = eight_steps(t, tables, alpha, inverse);
+        lines += 1;
+    }
+    t
+}
+
+// Eight ordinary steps back.
+fn eight_steps_back(
+    s: State,
+    columns: &[[u64; 256]; 8],
+    bytes: &[[u8; 256]; 4],
+    inverse: &[u64; 256],
+) -> State
+    ensures { λ r. ⌜ r ≡ walked (previousBy (now (columns .entry)) (now (bytes .entry)) (now (inverse .entry)) Ordinary) 8 s ⌝ }
+{
+    let a = step_back(Kind::Ordinary, s, columns, bytes, inverse);
+    let b = step_back(Kind::Ordinary, a, columns, bytes, inverse);
+    let c = step_back(Kind::Ordinary, b, columns, bytes, inverse);
+    let d = step_back(Kind::Ordinary, c, columns, bytes, inverse);
+    let e = step_back(Kind::Ordinary, d, columns, bytes, inverse);
+    let f = step_back(Kind::Ordinary, e, columns, bytes, inverse);
+    let g = step_back(Kind::Ordinary, f, columns, bytes, inverse);
+    step_back(Kind::Ordinary, g, columns, bytes, inverse)
+}
+
+// n times eight ordinary steps back.
+fn steps_back_by_eight(
+    s: State,
+    n: u64,
+    columns: &[[u64; 256]; 8],
+    bytes: &[[u8; 256]; 4],
+    inverse: &[u64; 256],
+) -> State
+    ensures { λ r. ⌜ r ≡ walked (previousBy (now (columns .entry)) (now (bytes .entry)) (now (inverse .entry)) Ordinary) (8 * n) s ⌝ }
+{
+    let mut t = s;
+    let mut lines: u64 = 0;
+    while lines < n {
+        t = eight_steps_back(t, columns, bytes, inverse);
+        lines += 1;
+    }
+    t
+}
+
 // ---- walks
 
-// n steps.
-pub fn forward(
+// n steps, one by one.
+fn steps_by_one(
     kind: Kind,
     s: State,
     n: u64,
@@ -195,8 +279,28 @@ pub fn forward(
     t
 }
 
-// n steps back.
-pub fn backward(
+// n steps: ordinary ones by eight as far as that goes.
+pub fn forward(
+    kind: Kind,
+    s: State,
+    n: u64,
+    tables: &[[u64; 256]; 8],
+    alpha: &[u64; 256],
+    inverse: &[u64; 256],
+) -> State
+    ensures { λ r. ⌜ r ≡ walked (nextBy (now (tables .entry)) (now (alpha .entry)) (now (inverse .entry)) kind) n s ⌝ }
+{
+    match kind {
+        Kind::Ordinary => {
+            let t = steps_by_eight(s, n / 8, tables, alpha, inverse);
+            steps_by_one(Kind::Ordinary, t, n % 8, tables, alpha, inverse)
+        }
+        Kind::Initial => steps_by_one(Kind::Initial, s, n, tables, alpha, inverse),
+    }
+}
+
+// n steps back, one by one.
+fn steps_back_by_one(
     kind: Kind,
     s: State,
     n: u64,
@@ -213,4 +317,24 @@ pub fn backward(
         undone += 1;
     }
     t
+}
+
+// n steps back: ordinary ones by eight as far as that goes.
+pub fn backward(
+    kind: Kind,
+    s: State,
+    n: u64,
+    columns: &[[u64; 256]; 8],
+    bytes: &[[u8; 256]; 4],
+    inverse: &[u64; 256],
+) -> State
+    ensures { λ r. ⌜ r ≡ walked (previousBy (now (columns .entry)) (now (bytes .entry)) (now (inverse .entry)) kind) n s ⌝ }
+{
+    match kind {
+        Kind::Ordinary => {
+            let t = steps_back_by_eight(s, n / 8, columns, bytes, inverse);
+            steps_back_by_one(Kind::Ordinary, t, n % 8, columns, bytes, inverse)
+        }
+        Kind::Initial => steps_back_by_one(Kind::Initial, s, n, columns, bytes, inverse),
+    }
 }

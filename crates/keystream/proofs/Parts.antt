@@ -9,10 +9,11 @@ use lib.ListN.{length, take, drop, length-take, length-drop}
 use Rattle.generator.specs.declared.State.{State}
 use Rattle.generator.specs.declared.Stepped.{Stepped}
 use Rattle.generator.specs.Registers.{Registers, registersOf, keystreamWord, walked}
+use Rattle.generator.proofs.Iterate.{walked-on}
 use Rattle.keystream.specs.Keystream.{byteAt, streamByte, masked}
 use Rattle.keystream.specs.Functions.{Applied}
 use Rattle.keystream.proofs.Masked.{partly, partly-all, partly-length, partly-rest, partly-put, masked-ext}
-use Rattle.keystream.proofs.Stream.{walked-walked, stream-from, masked-within}
+use Rattle.keystream.proofs.Stream.{stream-from, masked-within}
 
 module _ (f : Registers → Registers) (p : ℕ) (s : State) (b : List ℕ) where
   -- the first i bytes of the buffer that held b are done
@@ -50,7 +51,7 @@ module _ (f : Registers → Registers) (p : ℕ) (s : State) (b : List ℕ) wher
           a .bytes ∙ ap (masked (streamByte f (registersOf t)) q) rest ∙ masked-ext (streamByte f (registersOf t)) g q (p + i) (take (e - i) (drop i b)) (λ j h. agree j) in
           record {
             within = el;
-            state = a .state ∙ rw (part-length, d .state) (walked-walked f ((p + i) / 8) ((q + (e - i)) / 8) s ∙ ap (λ (n : ℕ). walked f n s) steps);
+            state = walked-on f s ((p + i) / 8) ((q + (e - i)) / 8) ((p + e) / 8) (d .state) (rw part-length at (a .state)) steps;
             bytes = rw (d .bytes) (partly-put g p b i (d .within) (e - i) (omega arith) ey ∙ ap (partly g p b) sum);
           }
 

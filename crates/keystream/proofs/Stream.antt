@@ -7,10 +7,9 @@ use native.Mathlib.Omega.{arith}
 use lib.ListN.{length}
 use Rattle.galois.specs.Alpha.{alphaTable, alphaInverseTable}
 use Rattle.substitution.specs.Substitution.{substitutionTables}
-use Rattle.generator.specs.declared.State.{State}
 use Rattle.generator.specs.declared.Kind.{Kind}
 use Rattle.generator.specs.declared.Kind.the-variants.{Ordinary}
-use Rattle.generator.specs.Registers.{Registers, registersOf, stateOf, next, keystreamWord, iterate, walked}
+use Rattle.generator.specs.Registers.{Registers, next, keystreamWord, iterate}
 use Rattle.generator.proofs.GeneratorLaws.{generator-laws}
 use Rattle.generator.proofs.Iterate.{iterate-add}
 use Rattle.keystream.specs.Keystream.{byteAt, streamByte, masked}
@@ -20,9 +19,6 @@ use Rattle.keystream.proofs.Masked.{masked-ext}
 pub byte-at-mod : (z p q : ℕ) → p % 8 ≡ q % 8 → byteAt z p ≡ byteAt z q
 unfolding byteAt
 byte-at-mod z p q e = rw e refl
-
-pub walked-walked : (f : Registers → Registers) (m n : ℕ) (s : State) → walked f n (walked f m s) ≡ walked f (m + n) s
-walked-walked f m n s = ap (λ (r : Registers). stateOf r (s .size) (s .position)) (sym (iterate-add f m n (registersOf s)))
 
 -- byte a + j, counted from the word of byte a on
 pub stream-from : (f : Registers → Registers) (r : Registers) (a j : ℕ) → streamByte f (iterate f (a / 8) r) (a % 8 + j) ≡ streamByte f r (a + j)

@@ -1,35 +1,24 @@
--- `generator::backward` meets its contract: after i turns, i steps are undone.
+-- `generator::backward` meets its contract: ordinary steps by eight and then one by one, steps of initialisation one by one.
 -- Assumes nothing.
-use Prim.Native.Nat.{ℕ, _≤_, _-_}
-use mathlib.Core.Path.{_≡_, refl, ap, _∙_}
+use Prim.Native.Nat.{_*_, _/_, _%_}
 use native.Mathlib.Omega.{arith}
 use borrow.Author.Needs.{needs}
-use Rattle.generator.specs.Registers.{walked}
+use Rattle.generator.specs.declared.Kind.the-variants.{Ordinary}
 use Rattle.generator.specs.Functions.{previousBy}
-use Rattle.generator.proofs.Iterate.{walked-more}
+use Rattle.generator.proofs.Iterate.{walked-on}
 use Rattle.generator.proofs.backward.Statement.{statement}
 use Rattle.generator.proofs.backward.Tie as tie
 
-abbrev Inv-loop : tie.InvT-loop
-Inv-loop kind n columns bytes inverse t₀ i₀ t i = (t ≡ walked (previousBy columns bytes inverse kind) i t₀) × (i ≤ n)
-
-abbrev μ-loop : tie.MeasureT-loop
-μ-loop kind n columns bytes inverse t₀ i₀ t i = n - i
-
-loop-again : tie.Need-loop-again Inv-loop μ-loop
-loop-again c =
-    let l = c .before .before .loop in
-    let a = c .before .before .before .args in
-    (walked-more (previousBy (a .columns .now) (a .bytes .now) (a .inverse .now) (a .kind)) (a .s) (l .undone) (l .inv .0) (c .step-back .ensures), omega arith)
-
-returns : tie.Need-returns Inv-loop μ-loop
+returns : tie.Need-returns
 returns c =
-    let l = c .before .loop in
-    let a = c .before .before .args in
-    let e : l .undone ≡ a .n = omega arith in
-    l .inv .0 ∙ ap (λ (i : ℕ). walked (previousBy (a .columns .now) (a .bytes .now) (a .inverse .now) (a .kind)) i (a .s)) e
+    let k = c .before .before in
+    let a = k .before .before .args in
+    rw (k .enum-told .given .1) (walked-on (previousBy (a .columns .now) (a .bytes .now) (a .inverse .now) Ordinary) (a .s) (8 * (a .n / 8)) (a .n % 8) (a .n) (c .before .steps-back-by-eight .ensures) (c .steps-back-by-one .ensures) (omega arith))
+
+returns-2 : tie.Need-returns-2
+returns-2 c = rw (c .before .enum-told2 .given .1) (c .steps-back-by-one2 .ensures)
 
 pub backward-spec : {M : Type 1} → statement M
 backward-spec =
     tie.close
-    (tie.spec Inv-loop μ-loop (λ c. (refl, omega arith)) (λ c κs. search needs) (λ c. omega arith) (λ c. omega arith) loop-again returns)
+    (tie.spec (λ c. search needs) (λ c κs. search needs) (λ c κs. search needs) (λ c. search needs) (λ c κs. search needs) returns returns-2)
