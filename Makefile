@@ -1,5 +1,5 @@
-# The repository's two commands, and the layout of its files. `make test` is the gate.
-.PHONY: test run fmt
+# The repository's two commands, the benchmark, and the layout of its files. `make test` is the gate.
+.PHONY: test run bench fmt
 
 # Proves every crate from nothing, tries the must-fail edits, runs the programs and the tests outside Rattle. Last line: N passed, 0 failed.
 test:
@@ -10,6 +10,10 @@ run:
 	@echo 'proving and building, which takes some minutes the first time' >&2
 	@tools/build-rust --example demonstration
 	@target/cargo/release/examples/demonstration
+
+# The proved library beside the cipher in C of bench/: instructions and times, as a table, and the bars that are set for them.
+bench:
+	@tools/bench
 
 # Lays the files of crates/ out as the gate wants them.
 fmt:

@@ -1,0 +1,422 @@
+/*
+ * The benchmark: the proved library and the cipher in C, on the same input. tools/bench calls it, and makes one table of what it prints.
+ *
+ *   bench check PI VECTORS       tries the cipher in C by the published vectors and beside the proved library; status 1 where they differ
+ *   bench time PI                runs each row of the table by both, in turn, and prints the best times
+ *   bench count PI ROW CIPHER    runs one row by one of them, `proved` or `c`; the function to be counted is `measured`
+ *
+ * PI and VECTORS are the files of the folder data.
+ */
+#define _POSIX_C_SOURCE 199309L
+
+#include "strumok.h"
+#include "strumok_in_c.h"
+
+#include <inttypes.h>
+#include <stdio.h>
+#include <stdlib.h>
+#include <string.h>
+#include <time.h>
+
+enum { WORDS = STRUMOK_STATE_WORDS, IV = 32, LONGEST = 64, LENGTH = 80, MIB = 1048576, SAMPLES = 21 };
+
+struct cipher {
+    const char *name;
+    uint64_t (*open)(const uint8_t *, size_t, const uint8_t *, size_t, uint64_t *);
+    uint64_t (*apply)(uint64_t *, const uint8_t *, size_t, uint8_t *, size_t);
+    uint64_t (*move)(uint64_t *, int64_t);
+    uint64_t (*check)(const uint64_t *, const uint8_t *, size_t, uint8_t *, size_t);
+};
+
+static const struct cipher proved = {"proved", strumok_open, strumok_apply, strumok_move, strumok_check};
+static const struct cipher in_c = {"c", strumok_in_c_open, strumok_in_c_apply, strumok_in_c_move, strumok_in_c_check};
+
+static uint8_t key[LENGTH], iv[LENGTH], source[MIB], target[MIB], other_target[MIB];
+
+static void stop(const char *what)
+{
+    fprintf(stderr, "bench: %s\n", what);
+    exit(1);
+}
+
+/* Numbers that look random, the same at each run. */
+static uint64_t random_word(void)
+{
+    static uint64_t word = UINT64_C(0x9E3779B97F4A7C15);
+
+    word ^= word << 13;
+    word ^= word >> 7;
+    word ^= word << 17;
+    return word;
+}
+
+static size_t random_below(size_t bound)
+{
+    return (size_t)(random_word() >> 16) % bound;
+}
+
+static void random_bytes(uint8_t *bytes, size_t length)
+{
+    for (size_t i = 0; i < length; i++)
+        bytes[i] = (uint8_t)(random_word() >> 32);
+}
+
+/* ---- The check: the published vectors ---- */
+
+static unsigned compared;
+
+static void expect(int ok, const char *what)
+{
+    compared++;
+    if (!ok) {
+        fprintf(stderr, "bench: the cipher in C: not so: %s\n", what);
+        exit(1);
+    }
+}
+
+static void check_vector(size_t key_len, const uint64_t z[8])
+{
+    uint64_t state[WORDS];
+    uint8_t zeros[64] = {0}, bytes[64], found[LONGEST];
+
+    expect(in_c.open(key, key_len, iv, IV, state) == 0, "a vector is opened");
+    expect(in_c.apply(state, zeros, 64, bytes, 64) == 0, "a vector is applied");
+    for (unsigned i = 0; i < 64; i++)
+        expect(bytes[i] == (uint8_t)(z[i / 8] >> 8 * (i % 8)), "a byte of a vector");
+    expect(in_c.check(state, iv, IV, found, key_len) == 0 && memcmp(found, key, key_len) == 0, "the key of a vector");
+}
+
+static int bytes_of(const char *digits, uint8_t *bytes, size_t length)
+{
+    for (size_t i = 0; i < length; i++) {
+        unsigned byte;
+        if (sscanf(digits + 2 * i, "%2x", &byte) != 1)
+            return 0;
+        bytes[i] = (uint8_t)byte;
+    }
+    return digits[2 * length] == '\0';
+}
+
+static void check_vectors(const char *name)
+{
+    char line[512], key_digits[129], iv_digits[65];
+    uint64_t z[8];
+    unsigned bits, sizes[2] = {0, 0};
+    FILE *file = fopen(name, "r");
+
+    if (file == NULL)
+        stop("the file of vectors cannot be read");
+    while (fgets(line, sizeof line, file) != NULL) {
+        if (line[0] == '#' || line[0] == '\n')
+            continue;
+        const int fields = sscanf(line,
+                                  "%u key %128[0-9a-f] iv %64[0-9a-f] z %" SCNx64 "%" SCNx64 "%" SCNx64 "%" SCNx64 "%" SCNx64 "%" SCNx64
+                                  "%" SCNx64 "%" SCNx64,
+                                  &bits, key_digits, iv_digits, &z[0], &z[1], &z[2], &z[3], &z[4], &z[5], &z[6], &z[7]);
+        expect(fields == 11 && (bits == 256 || bits == 512) && bytes_of(key_digits, key, bits / 8) && bytes_of(iv_digits, iv, IV),
+               "a line of the file of vectors");
+        check_vector(bits / 8, z);
+        sizes[bits / 256 - 1]++;
+    }
+    fclose(file);
+    expect(sizes[0] == 4 && sizes[1] == 4, "there are four vectors of each size");
+}
+
+/* ---- The check: beside the proved library, call by call ---- */
+
+/* The states of both, which have to be equal before and after each call. */
+static uint64_t states[2][WORDS];
+
+static void compare_states(void)
+{
+    expect(memcmp(states[0], states[1], sizeof states[0]) == 0, "the states are equal");
+}
+
+static void set_states(const uint64_t *state)
+{
+    memcpy(states[0], state, sizeof states[0]);
+    memcpy(states[1], state, sizeof states[1]);
+}
+
+static void compare_open(size_t key_len, size_t iv_len)
+{
+    const uint64_t number = proved.open(key, key_len, iv, iv_len, states[0]);
+
+    expect(in_c.open(key, key_len, iv, iv_len, states[1]) == number, "the numbers of an opening");
+    compare_states();
+}
+
+/* A portion from some place in the source to some place in the target; bytes before and behind it are compared too. */
+static void compare_apply(size_t length, size_t target_len)
+{
+    const size_t from = random_below(64), to = random_below(64);
+    const uint64_t number = proved.apply(states[0], source + from, length, target + to, target_len);
+
+    expect(in_c.apply(states[1], source + from, length, other_target + to, target_len) == number, "the numbers of a portion");
+    expect(memcmp(target, other_target, length < MIB - 256 ? length + 256 : MIB) == 0, "the targets are equal");
+    compare_states();
+}
+
+static void compare_move(int64_t distance)
+{
+    const uint64_t number = proved.move(states[0], distance);
+
+    expect(in_c.move(states[1], distance) == number, "the numbers of a move");
+    compare_states();
+}
+
+static uint64_t compare_check(size_t iv_len, size_t key_len)
+{
+    uint8_t found[2][LENGTH] = {{0}};
+    const uint64_t number = proved.check(states[0], iv, iv_len, found[0], key_len);
+
+    expect(in_c.check(states[1], iv, iv_len, found[1], key_len) == number, "the numbers of a check");
+    expect(memcmp(found[0], found[1], LENGTH) == 0, "the keys of a check are equal");
+    expect(number != 0 || memcmp(found[0], key, key_len) == 0, "the key of a check is the one that was opened");
+    compare_states();
+    return number;
+}
+
+/* A portion, a move or a check of some length, at the position where the last call left the states. */
+static void compare_some_call(size_t key_len)
+{
+    static const size_t bounds[] = {9, 40, 300, 3000};
+    const size_t length = random_below(bounds[random_below(4)]);
+
+    switch (random_below(5)) {
+    case 0:
+        compare_move((int64_t)length);
+        break;
+    case 1:
+        compare_move(-(int64_t)length);
+        break;
+    case 2:
+        expect(compare_check(IV, key_len) == 0, "a state that was opened is accepted");
+        break;
+    default:
+        compare_apply(length, length + random_below(3));
+    }
+}
+
+static void compare_lengths(size_t key_len)
+{
+    compare_open(key_len, IV);
+    for (size_t length = 0; length < 400; length++)
+        compare_apply(length, length);
+    compare_apply(MIB - 64, MIB - 64);
+    compare_move(STRUMOK_LIMIT - (int64_t)states[0][STRUMOK_POSITION]);
+    expect(compare_check(IV, key_len) == 0, "the last position is accepted");
+    for (int64_t distance = 0; distance < 400; distance++)
+        compare_move(-distance);
+    compare_move(-(int64_t)states[0][STRUMOK_POSITION]);
+    for (int64_t distance = 0; distance < 400; distance++)
+        compare_move(distance);
+}
+
+/* With one bit of the IV, of a cell or of a register turned over, or with another position, a state is refused. */
+static void compare_damaged(size_t key_len)
+{
+    uint64_t held[WORDS];
+
+    compare_open(key_len, IV);
+    compare_move(1000);
+    memcpy(held, states[0], sizeof held);
+    for (unsigned i = 0; i < IV; i++) {
+        iv[i] ^= 1;
+        expect(compare_check(IV, key_len) == STRUMOK_REFUSED_NO_KEY_LEADS, "another IV is refused");
+        iv[i] ^= 1;
+    }
+    for (unsigned i = 0; i < 19; i++) {
+        uint64_t damaged[WORDS];
+        memcpy(damaged, held, sizeof damaged);
+        damaged[i == 18 ? STRUMOK_POSITION : i] ^= UINT64_C(1) << (3 * i % 20);
+        set_states(damaged);
+        expect(compare_check(IV, key_len) == STRUMOK_REFUSED_NO_KEY_LEADS, "a damaged state is refused");
+    }
+}
+
+/* Each call on states and lengths of which most are refused. */
+static void compare_refusals(void)
+{
+    static const uint64_t sizes[] = {0, 255, 256, 512, 513};
+    static const uint64_t positions[] = {0, 5, STRUMOK_LIMIT - 1, STRUMOK_LIMIT, STRUMOK_LIMIT + 1, UINT64_MAX};
+    static const size_t lengths[] = {0, 1, 2, 31, 32, 33, 63, 64, 65};
+    static const int64_t distances[] = {0, 1, 2, -1, -5, -6, STRUMOK_LIMIT, -STRUMOK_LIMIT, INT64_MAX, INT64_MIN};
+    uint64_t state[WORDS];
+
+    for (unsigned i = 0; i < 9 * 9; i++) {
+        set_states(states[0]);
+        compare_open(lengths[i / 9], lengths[i % 9]);
+    }
+    for (unsigned i = 0; i < WORDS; i++)
+        state[i] = random_word();
+    for (unsigned i = 0; i < 5 * 6; i++) {
+        state[STRUMOK_SIZE_MARK] = sizes[i / 6];
+        state[STRUMOK_POSITION] = positions[i % 6];
+        for (unsigned j = 0; j < 9; j++) {
+            set_states(state);
+            compare_apply(lengths[j], lengths[random_below(9)]);
+            set_states(state);
+            compare_check(random_below(2) == 0 ? IV : lengths[j], lengths[j]);
+        }
+        for (unsigned j = 0; j < 10; j++) {
+            set_states(state);
+            compare_move(distances[j]);
+        }
+    }
+}
+
+static int check(const char *vectors)
+{
+    check_vectors(vectors);
+    random_bytes(source, MIB);
+    random_bytes(target, MIB);
+    memcpy(other_target, target, MIB);
+    for (size_t key_len = 32; key_len <= 64; key_len += 32) {
+        random_bytes(key, LONGEST);
+        random_bytes(iv, IV);
+        compare_lengths(key_len);
+        compare_damaged(key_len);
+        compare_open(key_len, IV);
+        for (unsigned i = 0; i < 3000; i++)
+            compare_some_call(key_len);
+    }
+    compare_refusals();
+    printf("bench: the cipher in C has the published vectors and is the proved library's equal in %u comparisons\n", compared);
+    return 0;
+}
+
+/* ---- The rows ---- */
+
+enum call { OPENING, PORTION, MOVE, CHECK };
+
+static const struct row {
+    const char *name, *label;
+    enum call call;
+    int64_t length;     /* of the key, of a portion, of a move, or the position of a check */
+    size_t timed_calls; /* in one sample */
+    size_t counted_calls;
+} rows[] = {
+    {"open-256", "opening, key of 256 bits (a call)", OPENING, 32, 40000, 8},
+    {"open-512", "opening, key of 512 bits (a call)", OPENING, 64, 40000, 8},
+    {"apply-16", "portions of 16 bytes", PORTION, 16, 262144, 4096},
+    {"apply-64", "portions of 64 bytes", PORTION, 64, 131072, 1024},
+    {"apply-256", "portions of 256 bytes", PORTION, 256, 65536, 256},
+    {"apply-1024", "portions of 1,024 bytes", PORTION, 1024, 16384, 64},
+    {"apply-4096", "portions of 4,096 bytes", PORTION, 4096, 4096, 16},
+    {"apply-1048576", "portions of 1 MiB", PORTION, MIB, 16, 1},
+    {"forward", "move of 1 MiB forward", MOVE, MIB, 16, 1},
+    {"back", "move of 1 MiB back", MOVE, -MIB, 16, 1},
+    {"forward-far", "move of 16 MiB forward", MOVE, STRUMOK_LIMIT, 1, 1},
+    {"check", "check at position 16,777,216", CHECK, STRUMOK_LIMIT, 1, 1},
+};
+
+enum { ROWS = sizeof rows / sizeof rows[0] };
+
+/* So many calls of one row, one behind the other in an entry. 0 where all are accepted. */
+__attribute__((noinline, noclone)) uint64_t measured(const struct cipher *cipher, const struct row *row, size_t calls, uint64_t *state);
+
+uint64_t measured(const struct cipher *cipher, const struct row *row, size_t calls, uint64_t *state)
+{
+    const size_t length = (size_t)row->length;
+    uint64_t numbers = 0;
+    size_t at = 0;
+
+    switch (row->call) {
+    case OPENING:
+        for (; calls > 0; calls--)
+            numbers |= cipher->open(key, length, iv, IV, state);
+        break;
+    case PORTION:
+        for (; calls > 0; calls--, at = (at + length) % MIB)
+            numbers |= cipher->apply(state, source + at, length, target + at, length);
+        break;
+    case MOVE:
+        for (; calls > 0; calls--)
+            numbers |= cipher->move(state, row->length);
+        break;
+    case CHECK:
+        for (; calls > 0; calls--)
+            numbers |= cipher->check(state, iv, IV, target, LONGEST);
+    }
+    return numbers;
+}
+
+/* Where the first of so many calls of a row finds the state. */
+static int64_t start_of(const struct row *row, size_t calls)
+{
+    if (row->call == CHECK)
+        return row->length;
+    return row->length < 0 ? -row->length * (int64_t)calls : 0;
+}
+
+/* The processor time of so many calls, in seconds. The state is opened and moved to the start of the row before. */
+static double run(const struct cipher *cipher, const struct row *row, size_t calls)
+{
+    struct timespec begin, end;
+    uint64_t state[WORDS];
+
+    if (cipher->open(key, LONGEST, iv, IV, state) != 0 || cipher->move(state, start_of(row, calls)) != 0)
+        stop("a row was not begun");
+    clock_gettime(CLOCK_PROCESS_CPUTIME_ID, &begin);
+    const uint64_t numbers = measured(cipher, row, calls, state);
+    clock_gettime(CLOCK_PROCESS_CPUTIME_ID, &end);
+    if (numbers != 0)
+        stop("a call of a row was refused");
+    return (double)(end.tv_sec - begin.tv_sec) + 1e-9 * (double)(end.tv_nsec - begin.tv_nsec);
+}
+
+/* A line for each row, with tabs between: name, label, the best seconds of a call of the proved library and of the cipher in C. */
+static int print_times(void)
+{
+    for (const struct row *row = rows; row < rows + ROWS; row++) {
+        double best[2] = {1e9, 1e9};
+        for (unsigned sample = 0; sample < SAMPLES; sample++) {
+            for (unsigned which = 0; which < 2; which++) {
+                const double seconds = run(which == 0 ? &proved : &in_c, row, row->timed_calls);
+                if (seconds < best[which])
+                    best[which] = seconds;
+            }
+        }
+        printf("%s\t%s\t%.9g\t%.9g\n", row->name, row->label, best[0] / (double)row->timed_calls, best[1] / (double)row->timed_calls);
+        fflush(stdout);
+    }
+    return 0;
+}
+
+/* Runs a row to be counted, and prints by what its instructions are to be divided: the calls where it opens, and else the bytes. */
+static int count(const char *row_name, const char *cipher_name)
+{
+    const struct cipher *cipher = strcmp(cipher_name, in_c.name) == 0 ? &in_c : &proved;
+
+    if (strcmp(cipher_name, cipher->name) != 0)
+        stop("there is no cipher of that name");
+    for (const struct row *row = rows; row < rows + ROWS; row++) {
+        if (strcmp(row->name, row_name) == 0) {
+            run(cipher, row, row->counted_calls);
+            printf("%lld\n", (long long)row->counted_calls * (row->call == OPENING ? 1 : llabs(row->length)));
+            return 0;
+        }
+    }
+    stop("there is no row of that name");
+    return 1;
+}
+
+int main(int argc, char **argv)
+{
+    const char *mode = argc > 2 ? argv[1] : "";
+
+    if (argc > 2 && strumok_in_c_fill_tables(argv[2]) != 0)
+        stop("the file of the pi tables cannot be read");
+    if (strcmp(mode, "check") == 0 && argc == 4)
+        return check(argv[3]);
+    random_bytes(key, LONGEST);
+    random_bytes(iv, IV);
+    random_bytes(source, MIB);
+    if (strcmp(mode, "time") == 0 && argc == 3)
+        return print_times();
+    if (strcmp(mode, "count") == 0 && argc == 5)
+        return count(argv[3], argv[4]);
+    fputs("usage: bench check PI VECTORS | bench time PI | bench count PI ROW proved|c\n", stderr);
+    return 2;
+}
