@@ -97,6 +97,22 @@ uint64_t strumok_move(uint64_t state[STRUMOK_STATE_WORDS], int64_t distance);
  */
 uint64_t strumok_check(const uint64_t state[STRUMOK_STATE_WORDS], const uint8_t *iv, size_t iv_len, uint8_t *key, size_t key_len);
 
+/*
+ * Portions with tables that the caller holds. Each call above brings its tables to the stack anew, which for a short portion is most of its
+ * cost. A caller with short portions fills 2,560 words once, with strumok_tables, and lends them to the two calls below; they are only read,
+ * may be shared by any number of states, and may stand in read-only memory. With these words the calls are strumok_apply and
+ * strumok_window, with the same refusals. With other words in them, nothing worse happens than a keystream that is not Strumok's.
+ */
+#define STRUMOK_TABLES_WORDS 2560
+
+void strumok_tables(uint64_t tables[STRUMOK_TABLES_WORDS]);
+
+uint64_t strumok_apply_with(uint64_t state[STRUMOK_STATE_WORDS], const uint64_t tables[STRUMOK_TABLES_WORDS], const uint8_t *source,
+                            size_t source_len, uint8_t *target, size_t target_len);
+
+uint64_t strumok_window_with(uint64_t state[STRUMOK_STATE_WORDS], const uint64_t tables[STRUMOK_TABLES_WORDS], uint8_t *buffer,
+                             size_t buffer_len, size_t start, size_t count);
+
 #ifdef __cplusplus
 }
 #endif

@@ -1,18 +1,18 @@
 -- The laws of steps and walks that specs/GeneratorLaws.antt states.
 -- Assumes nothing.
-use mathlib.Core.Path.{_≡_, ap, fun-ext, _∙_}
+use mathlib.Core.Path.{_≡_, refl, ap, fun-ext, _∙_}
 use mathlib.Core.List.{List}
 use Prim.Native.Nat.{ℕ}
 use Rattle.galois.specs.Words.{at}
 use Rattle.galois.specs.Alpha.{alphaTable, alphaInverseTable, alphaTimesWith, alphaInverseTimesWith, alphaTimes, alphaInverseTimes}
 use Rattle.galois.proofs.AlphaLaws.{alpha-laws}
 use Rattle.substitution.specs.Pi.{piInverse}
-use Rattle.substitution.specs.Substitution.{substitutionTables, matrixInverseTables, lookUp, lookUpThrough, substitute, substituteInverse}
+use Rattle.substitution.specs.Substitution.{columnTables, substitutionTables, matrixInverseTables, lookUp, lookUpThrough, substitute, substituteInverse}
 use Rattle.substitution.proofs.SubstitutionLaws.{substitution-laws}
 use Rattle.generator.specs.declared.State.{State}
 use Rattle.generator.specs.declared.Kind.{Kind}
 use Rattle.generator.specs.Registers.{Registers, nextWith, previousWith, next, previous, walked}
-use Rattle.generator.specs.Functions.{nextBy, previousBy}
+use Rattle.generator.specs.Functions.{nextBy, previousBy, stepTables, nextIn}
 use Rattle.generator.specs.GeneratorLaws.{UndoneBy, GeneratorLaws}
 use Rattle.generator.proofs.Round as Round
 use Rattle.generator.proofs.Round.{Inverses}
@@ -45,6 +45,17 @@ alpha-path = fun-ext (alpha-laws .alpha-by-table)
 inverse-path : alphaInverseTimesWith (at alphaInverseTable) ≡ alphaInverseTimes
 inverse-path = fun-ext (alpha-laws .inverse-by-table)
 
+next-by-tables : nextBy substitutionTables alphaTable alphaInverseTable ≡ next
+next-by-tables =
+    ap (λ (t : ℕ → ℕ). nextWith t (alphaTimesWith (at alphaTable)) (alphaInverseTimesWith (at alphaInverseTable))) table-path
+    ∙ ap (λ (a : ℕ → ℕ). nextWith substitute a (alphaInverseTimesWith (at alphaInverseTable))) alpha-path
+    ∙ ap (nextWith substitute alphaTimes) inverse-path
+
+-- the eight tables of T, that of α and that of its inverse are found in their places among the ten
+in-places : nextIn stepTables ≡ nextBy substitutionTables alphaTable alphaInverseTable
+unfolding lookUp columnTables
+in-places = refl
+
 pub generator-laws : GeneratorLaws
 generator-laws =
     record {
@@ -56,10 +67,8 @@ generator-laws =
       backward-one-to-one = λ kind n. undone-one-to-one (iterate-undone (next-previous kind) n);
       forward-compose = λ kind. iterate-add (next kind);
       backward-compose = λ kind. iterate-add (previous kind);
-      next-by-tables =
-          ap (λ (t : ℕ → ℕ). nextWith t (alphaTimesWith (at alphaTable)) (alphaInverseTimesWith (at alphaInverseTable))) table-path
-          ∙ ap (λ (a : ℕ → ℕ). nextWith substitute a (alphaInverseTimesWith (at alphaInverseTable))) alpha-path
-          ∙ ap (nextWith substitute alphaTimes) inverse-path;
+      next-by-tables = next-by-tables;
+      next-in-tables = in-places ∙ next-by-tables;
       previous-by-tables =
           ap (λ (t : ℕ → ℕ). previousWith t (alphaInverseTimesWith (at alphaInverseTable))) inverse-table-path
           ∙ ap (previousWith substituteInverse) inverse-path;
@@ -67,8 +76,8 @@ generator-laws =
 
 -- ---- walks by the tables of T, α and their inverses
 
-pub forward-by-tables : {tables : List (List ℕ)} {alpha inverse : List ℕ} → tables ≡ substitutionTables → alpha ≡ alphaTable → inverse ≡ alphaInverseTable → (kind : Kind) (n : ℕ) (s : State) → walked (nextBy tables alpha inverse kind) n s ≡ walked (next kind) n s
-forward-by-tables et ea ei kind n s = rw (et, ea, ei) (ap (λ (f : Kind → Registers → Registers). walked (f kind) n s) (generator-laws .next-by-tables))
+pub forward-by-tables : {tables : List (List ℕ)} → tables ≡ stepTables → (kind : Kind) (n : ℕ) (s : State) → walked (nextIn tables kind) n s ≡ walked (next kind) n s
+forward-by-tables e kind n s = rw e (ap (λ (f : Kind → Registers → Registers). walked (f kind) n s) (generator-laws .next-in-tables))
 
 pub backward-by-tables : {columns bytes : List (List ℕ)} {inverse : List ℕ} → columns ≡ matrixInverseTables → bytes ≡ piInverse → inverse ≡ alphaInverseTable → (kind : Kind) (n : ℕ) (s : State) → walked (previousBy columns bytes inverse kind) n s ≡ walked (previous kind) n s
 backward-by-tables ec eb ei kind n s = rw (ec, eb, ei) (ap (λ (f : Kind → Registers → Registers). walked (f kind) n s) (generator-laws .previous-by-tables))

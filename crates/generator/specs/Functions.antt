@@ -1,11 +1,12 @@
 -- What the functions over lent tables hand over: the steps of specs/Registers.antt with words looked up in those tables.
 -- Where the tables are those of T and α, these are the steps of the cipher: laws `next-by-tables` and `previous-by-tables` of specs/GeneratorLaws.antt.
 -- Assumes nothing.
-use mathlib.Core.List.{List}
+use mathlib.Core.List.{List, [], _∷_, _++_}
 use Prim.Native.Nat.{ℕ}
+use lib.ListN.{getD}
 use Rattle.galois.specs.Words.{at}
-use Rattle.galois.specs.Alpha.{alphaTimesWith, alphaInverseTimesWith}
-use Rattle.substitution.specs.Substitution.{lookUp, lookUpThrough}
+use Rattle.galois.specs.Alpha.{alphaTable, alphaInverseTable, alphaTimesWith, alphaInverseTimesWith}
+use Rattle.substitution.specs.Substitution.{substitutionTables, lookUp, lookUpThrough}
 use Rattle.generator.specs.declared.State.{State}
 use Rattle.generator.specs.declared.Stepped.{Stepped}
 use Rattle.generator.specs.declared.Kind.{Kind}
@@ -28,3 +29,18 @@ stepBy tables alpha alphaInverse kind s =
 
 abbrev pub stepBackBy : (columns bytes : List (List ℕ)) (alphaInverse : List ℕ) → Kind → State → State
 stepBackBy columns bytes alphaInverse kind s = withRegisters s (previousBy columns bytes alphaInverse kind (registersOf s))
+
+-- ---- forward by ten tables in one: the eight of T, then that of α, then that of its inverse
+
+-- the ten tables of the cipher
+abbrev pub stepTables : List (List ℕ)
+stepTables = substitutionTables ++ (alphaTable ∷ alphaInverseTable ∷ [])
+
+abbrev pub feedbackIn : (tables : List (List ℕ)) → List ℕ → ℕ
+feedbackIn tables = feedbackBy (getD tables 8 []) (getD tables 9 [])
+
+abbrev pub nextIn : (tables : List (List ℕ)) → Kind → Registers → Registers
+nextIn tables = nextBy tables (getD tables 8 []) (getD tables 9 [])
+
+abbrev pub stepIn : (tables : List (List ℕ)) → Kind → State → Stepped
+stepIn tables = stepBy tables (getD tables 8 []) (getD tables 9 [])

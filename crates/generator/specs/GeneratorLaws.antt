@@ -8,7 +8,7 @@ use Rattle.substitution.specs.Pi.{piInverse}
 use Rattle.substitution.specs.Substitution.{substitutionTables, matrixInverseTables}
 use Rattle.generator.specs.declared.Kind.{Kind}
 use Rattle.generator.specs.Registers.{Registers, EighteenWords, next, previous, iterate}
-use Rattle.generator.specs.Functions.{nextBy, previousBy}
+use Rattle.generator.specs.Functions.{nextBy, previousBy, stepTables, nextIn}
 
 -- f keeps eighteen words such, and g undoes it there
 pub record UndoneBy (g f : Registers → Registers) : Type 0 where
@@ -34,4 +34,5 @@ pub record GeneratorLaws : Type 0 where
   pub backward-compose : (kind : Kind) (m n : ℕ) (r : Registers) → iterate (previous kind) (m + n) r ≡ iterate (previous kind) n (iterate (previous kind) m r)
   -- with the tables of T, α and their inverses, the functions' steps are these
   pub next-by-tables : nextBy substitutionTables alphaTable alphaInverseTable ≡ next
+  pub next-in-tables : nextIn stepTables ≡ next
   pub previous-by-tables : previousBy matrixInverseTables piInverse alphaInverseTable ≡ previous

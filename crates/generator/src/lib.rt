@@ -5,12 +5,12 @@ ghost use Prim.Native.Nat.{_*_};
 ghost use lib.ListN.{drop, take};
 ghost use Rattle.generator.specs.declared.Kind.the-variants.{Ordinary};
 ghost use Rattle.generator.specs.Registers.{F, difference, mixed, walked};
-ghost use Rattle.generator.specs.Functions.{feedbackBy, nextBy, previousBy, stepBy, stepBackBy};
+ghost use Rattle.substitution.specs.Substitution.{lookUp};
+ghost use Rattle.generator.specs.Functions.{feedbackIn, nextIn, previousBy, stepIn, stepBackBy};
 use galois::alpha_inverse_times_by_table;
 use galois::alpha_times_by_table;
 use std::num::wrapping_add_u64;
 use std::num::wrapping_sub_u64;
-use substitution::substitute_word_by_tables;
 use substitution::substitute_word_inverse_by_tables;
 
 // The cells s0..s15, the registers r1 and r2, the size mark (256 or 512) and the byte position, which is the point that the state claims. To C
@@ -63,10 +63,24 @@ fn mix_in(kind: Kind, f: u64, x: u64) -> u64
 }
 
 // α times s0, α inverse times s11, and s13, together.
-fn feedback(c: [u64; 16], alpha: &[u64; 256], inverse: &[u64; 256]) -> u64
-    ensures { λ r. ⌜ r ≡ feedbackBy (now (alpha .entry)) (now (inverse .entry)) c ⌝ }
+fn feedback(c: [u64; 16], tables: &[[u64; 256]; 10]) -> u64
+    ensures { λ r. ⌜ r ≡ feedbackIn (now (tables .entry)) c ⌝ }
 {
-    alpha_times_by_table(c[0], alpha) ^ alpha_inverse_times_by_table(c[11], inverse) ^ c[13]
+    alpha_times_by_table(c[0], &tables[8]) ^ alpha_inverse_times_by_table(c[11], &tables[9]) ^ c[13]
+}
+
+// T by the first eight of the tables.
+fn substitute(w: u64, tables: &[[u64; 256]; 10]) -> u64
+    ensures { λ r. ⌜ r ≡ lookUp (now (tables .entry)) w ⌝ }
+{
+    tables[0][((w >> 0) % 256) as usize]
+        ^ tables[1][((w >> 8) % 256) as usize]
+        ^ tables[2][((w >> 16) % 256) as usize]
+        ^ tables[3][((w >> 24) % 256) as usize]
+        ^ tables[4][((w >> 32) % 256) as usize]
+        ^ tables[5][((w >> 40) % 256) as usize]
+        ^ tables[6][((w >> 48) % 256) as usize]
+        ^ tables[7][((w >> 56) % 256) as usize]
 }
 
 // The cells one place on, the first one gone and x last.
@@ -120,20 +134,14 @@ fn shift_out(c: [u64; 16], x: u64) -> [u64; 16]
 // ---- one step
 
 // One step by the tables that are lent: the state after it, and the keystream word of the state before it.
-pub fn step(
-    kind: Kind,
-    s: State,
-    tables: &[[u64; 256]; 8],
-    alpha: &[u64; 256],
-    inverse: &[u64; 256],
-) -> Stepped
-    ensures { λ r. ⌜ r ≡ stepBy (now (tables .entry)) (now (alpha .entry)) (now (inverse .entry)) kind s ⌝ }
+pub fn step(kind: Kind, s: State, tables: &[[u64; 256]; 10]) -> Stepped
+    ensures { λ r. ⌜ r ≡ stepIn (now (tables .entry)) kind s ⌝ }
 {
     let c = s.cells;
     let f = filter(c[15], s.r1, s.r2);
-    let last = mix_in(kind, f, feedback(c, alpha, inverse));
+    let last = mix_in(kind, f, feedback(c, tables));
     let cells = shift_in(c, last);
-    let r2 = substitute_word_by_tables(s.r1, tables);
+    let r2 = substitute(s.r1, tables);
     let r1 = wrapping_add_u64(s.r2, c[13]);
     Stepped {
         state: State {
@@ -180,39 +188,28 @@ pub fn step_back(
 // that none of them tests its kind.
 
 // Eight ordinary steps.
-fn eight_steps(
-    s: State,
-    tables: &[[u64; 256]; 8],
-    alpha: &[u64; 256],
-    inverse: &[u64; 256],
-) -> State
-    ensures { λ r. ⌜ r ≡ walked (nextBy (now (tables .entry)) (now (alpha .entry)) (now (inverse .entry)) Ordinary) 8 s ⌝ }
+fn eight_steps(s: State, tables: &[[u64; 256]; 10]) -> State
+    ensures { λ r. ⌜ r ≡ walked (nextIn (now (tables .entry)) Ordinary) 8 s ⌝ }
 {
-    let a = step(Kind::Ordinary, s, tables, alpha, inverse);
-    let b = step(Kind::Ordinary, a.state, tables, alpha, inverse);
-    let c = step(Kind::Ordinary, b.state, tables, alpha, inverse);
-    let d = step(Kind::Ordinary, c.state, tables, alpha, inverse);
-    let e = step(Kind::Ordinary, d.state, tables, alpha, inverse);
-    let f = step(Kind::Ordinary, e.state, tables, alpha, inverse);
-    let g = step(Kind::Ordinary, f.state, tables, alpha, inverse);
-    let h = step(Kind::Ordinary, g.state, tables, alpha, inverse);
+    let a = step(Kind::Ordinary, s, tables);
+    let b = step(Kind::Ordinary, a.state, tables);
+    let c = step(Kind::Ordinary, b.state, tables);
+    let d = step(Kind::Ordinary, c.state, tables);
+    let e = step(Kind::Ordinary, d.state, tables);
+    let f = step(Kind::Ordinary, e.state, tables);
+    let g = step(Kind::Ordinary, f.state, tables);
+    let h = step(Kind::Ordinary, g.state, tables);
     h.state
 }
 
 // n times eight ordinary steps.
-fn steps_by_eight(
-    s: State,
-    n: u64,
-    tables: &[[u64; 256]; 8],
-    alpha: &[u64; 256],
-    inverse: &[u64; 256],
-) -> State
-    ensures { λ r. ⌜ r ≡ walked (nextBy (now (tables .entry)) (now (alpha .entry)) (now (inverse .entry)) Ordinary) (8 * n) s ⌝ }
+fn steps_by_eight(s: State, n: u64, tables: &[[u64; 256]; 10]) -> State
+    ensures { λ r. ⌜ r ≡ walked (nextIn (now (tables .entry)) Ordinary) (8 * n) s ⌝ }
 {
     let mut t = s;
     let mut lines: u64 = 0;
     while lines < n {
-        t = eight_steps(t, tables, alpha, inverse);
+        t = eight_steps(t, tables);
         lines += 1;
     }
     t
@@ -259,20 +256,13 @@ fn steps_back_by_eight(
 // ---- walks
 
 // n steps, one by one.
-fn steps_by_one(
-    kind: Kind,
-    s: State,
-    n: u64,
-    tables: &[[u64; 256]; 8],
-    alpha: &[u64; 256],
-    inverse: &[u64; 256],
-) -> State
-    ensures { λ r. ⌜ r ≡ walked (nextBy (now (tables .entry)) (now (alpha .entry)) (now (inverse .entry)) kind) n s ⌝ }
+fn steps_by_one(kind: Kind, s: State, n: u64, tables: &[[u64; 256]; 10]) -> State
+    ensures { λ r. ⌜ r ≡ walked (nextIn (now (tables .entry)) kind) n s ⌝ }
 {
     let mut t = s;
     let mut taken: u64 = 0;
     while taken < n {
-        let stepped = step(kind, t, tables, alpha, inverse);
+        let stepped = step(kind, t, tables);
         t = stepped.state;
         taken += 1;
     }
@@ -280,22 +270,15 @@ fn steps_by_one(
 }
 
 // n steps: ordinary ones by eight as far as that goes.
-pub fn forward(
-    kind: Kind,
-    s: State,
-    n: u64,
-    tables: &[[u64; 256]; 8],
-    alpha: &[u64; 256],
-    inverse: &[u64; 256],
-) -> State
-    ensures { λ r. ⌜ r ≡ walked (nextBy (now (tables .entry)) (now (alpha .entry)) (now (inverse .entry)) kind) n s ⌝ }
+pub fn forward(kind: Kind, s: State, n: u64, tables: &[[u64; 256]; 10]) -> State
+    ensures { λ r. ⌜ r ≡ walked (nextIn (now (tables .entry)) kind) n s ⌝ }
 {
     match kind {
         Kind::Ordinary => {
-            let t = steps_by_eight(s, n / 8, tables, alpha, inverse);
-            steps_by_one(Kind::Ordinary, t, n % 8, tables, alpha, inverse)
+            let t = steps_by_eight(s, n / 8, tables);
+            steps_by_one(Kind::Ordinary, t, n % 8, tables)
         }
-        Kind::Initial => steps_by_one(Kind::Initial, s, n, tables, alpha, inverse),
+        Kind::Initial => steps_by_one(Kind::Initial, s, n, tables),
     }
 }
 

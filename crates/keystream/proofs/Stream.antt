@@ -5,15 +5,9 @@ use mathlib.Core.List.{List}
 use Prim.Native.Nat.{ℕ, _+_, _/_, _%_, _≤_}
 use native.Mathlib.Omega.{arith}
 use lib.ListN.{length}
-use Rattle.galois.specs.Alpha.{alphaTable, alphaInverseTable}
-use Rattle.substitution.specs.Substitution.{substitutionTables}
-use Rattle.generator.specs.declared.Kind.{Kind}
-use Rattle.generator.specs.declared.Kind.the-variants.{Ordinary}
-use Rattle.generator.specs.Registers.{Registers, next, keystreamWord, iterate}
-use Rattle.generator.proofs.GeneratorLaws.{generator-laws}
+use Rattle.generator.specs.Registers.{Registers, keystreamWord, iterate}
 use Rattle.generator.proofs.Iterate.{iterate-add}
 use Rattle.keystream.specs.Keystream.{byteAt, streamByte, masked}
-use Rattle.keystream.specs.Functions.{stepOver}
 use Rattle.keystream.proofs.Masked.{masked-ext}
 
 pub byte-at-mod : (z p q : ℕ) → p % 8 ≡ q % 8 → byteAt z p ≡ byteAt z q
@@ -32,7 +26,3 @@ pub masked-within : (f : Registers → Registers) (r : Registers) (p : ℕ) (xs 
 masked-within f r p xs h =
     masked-ext (byteAt (keystreamWord r)) (streamByte f r) p p xs
     (λ j hj. let e : 0 ≡ (p + j) / 8 = omega arith in ap (λ (n : ℕ). byteAt (keystreamWord (iterate f n r)) (p + j)) e)
-
--- a step by the tables of T and α
-pub step-by-tables : {tables : List (List ℕ)} {alpha inverse : List ℕ} → tables ≡ substitutionTables → alpha ≡ alphaTable → inverse ≡ alphaInverseTable → stepOver tables alpha inverse ≡ next Ordinary
-step-by-tables et ea ei = rw (et, ea, ei) (ap (λ (f : Kind → Registers → Registers). f Ordinary) (generator-laws .next-by-tables))

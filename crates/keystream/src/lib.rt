@@ -1,15 +1,12 @@
-// The keystream over a buffer, in place, from any byte of a state's word on. Tables are held once and lent.
+// The keystream over a buffer, in place, from any byte of a state's word on. Tables are lent.
 ghost use mathlib.Core.Path.{_≡_};
-ghost use Prim.Native.Nat.{_+_, _/_, _%_, _<_, _≤_};
+ghost use Prim.Native.Nat.{_+_, _%_, _<_, _≤_};
 ghost use lib.ListN.{length};
 ghost use Rattle.galois.specs.Words.{at, byte, tabulate, word};
 ghost use Rattle.generator.specs.declared.Kind.the-variants.{Ordinary};
-ghost use Rattle.generator.specs.Registers.{next, registersOf, walked};
-ghost use Rattle.keystream.specs.Keystream.{byteAt, masked, streamByte};
-ghost use Rattle.keystream.specs.Functions.{Applied, stepOver};
-use columns::substitution_tables;
-use galois::alpha_inverse_table;
-use galois::alpha_table;
+ghost use Rattle.generator.specs.Functions.{nextIn};
+ghost use Rattle.keystream.specs.Keystream.{byteAt, masked};
+ghost use Rattle.keystream.specs.Functions.{Applied};
 use galois::byte_of;
 use generator::Kind;
 use generator::State;
@@ -77,167 +74,185 @@ fn mask_bytes(z: u64, p: u64, part: &mut [u8])
 
 // ---- words in a straight line
 
-// Each function here but the first is called in one place alone, so that the compiler makes one straight line of eight steps of it.
+// Each function here but the first is called in one place alone, so that the compiler makes one straight line of eight or of sixteen steps of it.
 
 // One word.
-fn apply_one(
-    s: State,
-    tables: &[[u64; 256]; 8],
-    alpha: &[u64; 256],
-    inverse: &[u64; 256],
-    part: &mut [u8],
-) -> State
+fn apply_one(s: State, tables: &[[u64; 256]; 10], part: &mut [u8]) -> State
     requires { ⌜ length (now part) ≡ 8 ⌝ }
-    ensures { λ r. ⌜ Applied (stepOver (now (tables .entry)) (now (alpha .entry)) (now (inverse .entry))) 0 s (now (part .entry)) r (now (part .exit)) ⌝ }
+    ensures { λ r. ⌜ Applied (nextIn (now (tables .entry)) Ordinary) 0 s (now (part .entry)) r (now (part .exit)) ⌝ }
 {
-    let stepped = step(Kind::Ordinary, s, tables, alpha, inverse);
+    let stepped = step(Kind::Ordinary, s, tables);
     mask_word(stepped.word, part);
     stepped.state
 }
 
 // Three words.
-fn apply_three(
-    s: State,
-    tables: &[[u64; 256]; 8],
-    alpha: &[u64; 256],
-    inverse: &[u64; 256],
-    part: &mut [u8],
-) -> State
+fn apply_three(s: State, tables: &[[u64; 256]; 10], part: &mut [u8]) -> State
     requires { ⌜ length (now part) ≡ 24 ⌝ }
-    ensures { λ r. ⌜ Applied (stepOver (now (tables .entry)) (now (alpha .entry)) (now (inverse .entry))) 0 s (now (part .entry)) r (now (part .exit)) ⌝ }
+    ensures { λ r. ⌜ Applied (nextIn (now (tables .entry)) Ordinary) 0 s (now (part .entry)) r (now (part .exit)) ⌝ }
 {
-    let a = apply_one(s, tables, alpha, inverse, &mut part[0..8]);
-    let b = apply_one(a, tables, alpha, inverse, &mut part[8..16]);
-    apply_one(b, tables, alpha, inverse, &mut part[16..24])
+    let a = apply_one(s, tables, &mut part[0..8]);
+    let b = apply_one(a, tables, &mut part[8..16]);
+    apply_one(b, tables, &mut part[16..24])
 }
 
 // Five words.
-fn apply_five(
-    s: State,
-    tables: &[[u64; 256]; 8],
-    alpha: &[u64; 256],
-    inverse: &[u64; 256],
-    part: &mut [u8],
-) -> State
+fn apply_five(s: State, tables: &[[u64; 256]; 10], part: &mut [u8]) -> State
     requires { ⌜ length (now part) ≡ 40 ⌝ }
-    ensures { λ r. ⌜ Applied (stepOver (now (tables .entry)) (now (alpha .entry)) (now (inverse .entry))) 0 s (now (part .entry)) r (now (part .exit)) ⌝ }
+    ensures { λ r. ⌜ Applied (nextIn (now (tables .entry)) Ordinary) 0 s (now (part .entry)) r (now (part .exit)) ⌝ }
 {
-    let a = apply_one(s, tables, alpha, inverse, &mut part[0..8]);
-    let b = apply_one(a, tables, alpha, inverse, &mut part[8..16]);
-    apply_three(b, tables, alpha, inverse, &mut part[16..40])
+    let a = apply_one(s, tables, &mut part[0..8]);
+    let b = apply_one(a, tables, &mut part[8..16]);
+    apply_three(b, tables, &mut part[16..40])
 }
 
 // Eight words.
-fn apply_eight(
-    s: State,
-    tables: &[[u64; 256]; 8],
-    alpha: &[u64; 256],
-    inverse: &[u64; 256],
-    part: &mut [u8],
-) -> State
+fn apply_eight(s: State, tables: &[[u64; 256]; 10], part: &mut [u8]) -> State
     requires { ⌜ length (now part) ≡ 64 ⌝ }
-    ensures { λ r. ⌜ Applied (stepOver (now (tables .entry)) (now (alpha .entry)) (now (inverse .entry))) 0 s (now (part .entry)) r (now (part .exit)) ⌝ }
+    ensures { λ r. ⌜ Applied (nextIn (now (tables .entry)) Ordinary) 0 s (now (part .entry)) r (now (part .exit)) ⌝ }
 {
-    let a = apply_one(s, tables, alpha, inverse, &mut part[0..8]);
-    let b = apply_one(a, tables, alpha, inverse, &mut part[8..16]);
-    let c = apply_one(b, tables, alpha, inverse, &mut part[16..24]);
-    apply_five(c, tables, alpha, inverse, &mut part[24..64])
+    let a = apply_one(s, tables, &mut part[0..8]);
+    let b = apply_one(a, tables, &mut part[8..16]);
+    let c = apply_one(b, tables, &mut part[16..24]);
+    apply_five(c, tables, &mut part[24..64])
+}
+
+// The same for sixteen words, which a long portion goes by.
+
+// Its last four words.
+fn apply_last_four(s: State, tables: &[[u64; 256]; 10], part: &mut [u8]) -> State
+    requires { ⌜ length (now part) ≡ 32 ⌝ }
+    ensures { λ r. ⌜ Applied (nextIn (now (tables .entry)) Ordinary) 0 s (now (part .entry)) r (now (part .exit)) ⌝ }
+{
+    let a = apply_one(s, tables, &mut part[0..8]);
+    let b = apply_one(a, tables, &mut part[8..16]);
+    let c = apply_one(b, tables, &mut part[16..24]);
+    apply_one(c, tables, &mut part[24..32])
+}
+
+// Its last eight.
+fn apply_last_eight(s: State, tables: &[[u64; 256]; 10], part: &mut [u8]) -> State
+    requires { ⌜ length (now part) ≡ 64 ⌝ }
+    ensures { λ r. ⌜ Applied (nextIn (now (tables .entry)) Ordinary) 0 s (now (part .entry)) r (now (part .exit)) ⌝ }
+{
+    let a = apply_one(s, tables, &mut part[0..8]);
+    let b = apply_one(a, tables, &mut part[8..16]);
+    let c = apply_one(b, tables, &mut part[16..24]);
+    let d = apply_one(c, tables, &mut part[24..32]);
+    apply_last_four(d, tables, &mut part[32..64])
+}
+
+// Its last twelve.
+fn apply_last_twelve(s: State, tables: &[[u64; 256]; 10], part: &mut [u8]) -> State
+    requires { ⌜ length (now part) ≡ 96 ⌝ }
+    ensures { λ r. ⌜ Applied (nextIn (now (tables .entry)) Ordinary) 0 s (now (part .entry)) r (now (part .exit)) ⌝ }
+{
+    let a = apply_one(s, tables, &mut part[0..8]);
+    let b = apply_one(a, tables, &mut part[8..16]);
+    let c = apply_one(b, tables, &mut part[16..24]);
+    let d = apply_one(c, tables, &mut part[24..32]);
+    apply_last_eight(d, tables, &mut part[32..96])
+}
+
+// Sixteen words.
+fn apply_sixteen(s: State, tables: &[[u64; 256]; 10], part: &mut [u8]) -> State
+    requires { ⌜ length (now part) ≡ 128 ⌝ }
+    ensures { λ r. ⌜ Applied (nextIn (now (tables .entry)) Ordinary) 0 s (now (part .entry)) r (now (part .exit)) ⌝ }
+{
+    let a = apply_one(s, tables, &mut part[0..8]);
+    let b = apply_one(a, tables, &mut part[8..16]);
+    let c = apply_one(b, tables, &mut part[16..24]);
+    let d = apply_one(c, tables, &mut part[24..32]);
+    apply_last_twelve(d, tables, &mut part[32..128])
 }
 
 // ---- whole portions
 
-// Whole blocks of eight words.
-fn apply_blocks(
-    s: State,
-    tables: &[[u64; 256]; 8],
-    alpha: &[u64; 256],
-    inverse: &[u64; 256],
-    buffer: &mut [u8],
-) -> State
-    requires { ⌜ length (now buffer) % 64 ≡ 0 ⌝ }
-    ensures { λ r. ⌜ Applied (stepOver (now (tables .entry)) (now (alpha .entry)) (now (inverse .entry))) 0 s (now (buffer .entry)) r (now (buffer .exit)) ⌝ }
+// Whole blocks of sixteen words.
+fn apply_blocks(s: State, tables: &[[u64; 256]; 10], buffer: &mut [u8]) -> State
+    requires { ⌜ length (now buffer) % 128 ≡ 0 ⌝ }
+    ensures { λ r. ⌜ Applied (nextIn (now (tables .entry)) Ordinary) 0 s (now (buffer .entry)) r (now (buffer .exit)) ⌝ }
 {
     let mut t = s;
     let mut i = 0;
     while i < buffer.len() {
-        let e = i + 64;
-        t = apply_eight(t, tables, alpha, inverse, &mut buffer[i..e]);
+        let e = i + 128;
+        t = apply_sixteen(t, tables, &mut buffer[i..e]);
         i = e;
     }
     t
 }
 
+// Eight words, or none.
+fn apply_half_block(s: State, tables: &[[u64; 256]; 10], part: &mut [u8]) -> State
+    requires { ⌜ (length (now part) % 64 ≡ 0) × (length (now part) < 128) ⌝ }
+    ensures { λ r. ⌜ Applied (nextIn (now (tables .entry)) Ordinary) 0 s (now (part .entry)) r (now (part .exit)) ⌝ }
+{
+    if part.len() == 0 {
+        s
+    } else {
+        apply_eight(s, tables, part)
+    }
+}
+
 // Whole words.
-fn apply_words(
-    s: State,
-    tables: &[[u64; 256]; 8],
-    alpha: &[u64; 256],
-    inverse: &[u64; 256],
-    buffer: &mut [u8],
-) -> State
+fn apply_words(s: State, tables: &[[u64; 256]; 10], buffer: &mut [u8]) -> State
     requires { ⌜ length (now buffer) % 8 ≡ 0 ⌝ }
-    ensures { λ r. ⌜ Applied (stepOver (now (tables .entry)) (now (alpha .entry)) (now (inverse .entry))) 0 s (now (buffer .entry)) r (now (buffer .exit)) ⌝ }
+    ensures { λ r. ⌜ Applied (nextIn (now (tables .entry)) Ordinary) 0 s (now (buffer .entry)) r (now (buffer .exit)) ⌝ }
 {
     let mut t = s;
     let mut i = 0;
     while i < buffer.len() {
         let e = i + 8;
-        t = apply_one(t, tables, alpha, inverse, &mut buffer[i..e]);
+        t = apply_one(t, tables, &mut buffer[i..e]);
         i = e;
     }
     t
 }
 
 // Bytes from byte p of the word on that end with it or before. A word used up is stepped over; the rest of another is left to the next portion.
-fn apply_edge(
-    s: State,
-    p: u64,
-    tables: &[[u64; 256]; 8],
-    alpha: &[u64; 256],
-    inverse: &[u64; 256],
-    buffer: &mut [u8],
-) -> State
+fn apply_edge(s: State, p: u64, tables: &[[u64; 256]; 10], buffer: &mut [u8]) -> State
     requires { ⌜ p + length (now buffer) ≤ 8 ⌝ }
-    ensures { λ r. ⌜ Applied (stepOver (now (tables .entry)) (now (alpha .entry)) (now (inverse .entry))) p s (now (buffer .entry)) r (now (buffer .exit)) ⌝ }
+    ensures { λ r. ⌜ Applied (nextIn (now (tables .entry)) Ordinary) p s (now (buffer .entry)) r (now (buffer .exit)) ⌝ }
 {
     let n = buffer.len() as u64;
-    let stepped = step(Kind::Ordinary, s, tables, alpha, inverse);
+    let stepped = step(Kind::Ordinary, s, tables);
     mask_bytes(stepped.word, p, buffer);
     if p + n < 8 { s } else { stepped.state }
 }
 
-// From byte p of the word on: bytes up to the start of the next word, blocks, words, and what is left.
-fn apply_from(
-    s: State,
-    p: u64,
-    tables: &[[u64; 256]; 8],
-    alpha: &[u64; 256],
-    inverse: &[u64; 256],
-    buffer: &mut [u8],
-) -> State
+// From the start of a word on: blocks, half a block, words, and what is left.
+fn apply_aligned(s: State, tables: &[[u64; 256]; 10], buffer: &mut [u8]) -> State
+    ensures { λ r. ⌜ Applied (nextIn (now (tables .entry)) Ordinary) 0 s (now (buffer .entry)) r (now (buffer .exit)) ⌝ }
+{
+    let n = buffer.len();
+    let l = n / 128 * 128;
+    let j = n / 64 * 64;
+    let m = n / 8 * 8;
+    let a = apply_blocks(s, tables, &mut buffer[0..l]);
+    let b = apply_half_block(a, tables, &mut buffer[l..j]);
+    let c = apply_words(b, tables, &mut buffer[j..m]);
+    apply_edge(c, 0, tables, &mut buffer[m..n])
+}
+
+// From byte p of the word on: bytes up to the start of the next word, and what follows.
+fn apply_from(s: State, p: u64, tables: &[[u64; 256]; 10], buffer: &mut [u8]) -> State
     requires { ⌜ p < 8 ⌝ }
-    ensures { λ r. ⌜ Applied (stepOver (now (tables .entry)) (now (alpha .entry)) (now (inverse .entry))) p s (now (buffer .entry)) r (now (buffer .exit)) ⌝ }
+    ensures { λ r. ⌜ Applied (nextIn (now (tables .entry)) Ordinary) p s (now (buffer .entry)) r (now (buffer .exit)) ⌝ }
 {
     let n = buffer.len();
     let k = ((8 - p) % 8) as usize;
     if n <= k {
-        return apply_edge(s, p, tables, alpha, inverse, buffer);
+        return apply_edge(s, p, tables, buffer);
     }
-    let l = k + (n - k) / 64 * 64;
-    let m = k + (n - k) / 8 * 8;
-    let a = apply_edge(s, p, tables, alpha, inverse, &mut buffer[0..k]);
-    let b = apply_blocks(a, tables, alpha, inverse, &mut buffer[k..l]);
-    let c = apply_words(b, tables, alpha, inverse, &mut buffer[l..m]);
-    apply_edge(c, 0, tables, alpha, inverse, &mut buffer[m..n])
+    let a = apply_edge(s, p, tables, &mut buffer[0..k]);
+    apply_aligned(a, tables, &mut buffer[k..n])
 }
 
-// The keystream over the buffer, from the byte at the state's position on. The state's registers are walked on, its position is kept.
-pub fn apply_keystream(s: State, buffer: &mut [u8]) -> State
-    ensures { λ r. ⌜ r ≡ walked (next Ordinary) ((s .position % 8 + length (now (buffer .entry))) / 8) s ⌝ }
-    ensures { λ _. ⌜ now (buffer .exit) ≡ masked (streamByte (next Ordinary) (registersOf s)) (s .position % 8) (now (buffer .entry)) ⌝ }
+// The keystream over the buffer by the tables that are lent, from the byte at the state's position on. The state's registers are walked on, its
+// position is kept.
+pub fn apply_keystream(s: State, tables: &[[u64; 256]; 10], buffer: &mut [u8]) -> State
+    ensures { λ r. ⌜ Applied (nextIn (now (tables .entry)) Ordinary) (s .position % 8) s (now (buffer .entry)) r (now (buffer .exit)) ⌝ }
 {
-    let tables = substitution_tables();
-    let alpha = alpha_table();
-    let inverse = alpha_inverse_table();
-    apply_from(s, s.position % 8, &tables, &alpha, &inverse, buffer)
+    apply_from(s, s.position % 8, tables, buffer)
 }

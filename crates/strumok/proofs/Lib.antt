@@ -6,6 +6,7 @@ pub mod Opened
 pub mod Walks
 pub mod MovingLaws
 pub mod Portions
+pub mod AnyStepLaws
 pub mod Checks
 pub mod ApplyingLaws
 pub mod Chains

@@ -13,13 +13,14 @@ use lib.ListN.{length, take, drop, length-take, length-drop}
 use lib.Seq.{take-length, take-at, drop-at, drop-drop}
 use Rattle.generator.specs.declared.State.{State}
 use Rattle.generator.specs.declared.Kind.the-variants.{Ordinary}
-use Rattle.generator.specs.Registers.{registersOf, stateOf, next, keystreamWord, iterate, walked}
-use Rattle.keystream.specs.Keystream.{streamByte, masked}
+use Rattle.generator.specs.Registers.{Registers, registersOf, next, keystreamWord, iterate, walked}
+use Rattle.keystream.specs.Keystream.{streamByte}
 use Rattle.keystream.proofs.Masked.{masked-ext}
 use Rattle.keystream.proofs.Stream.{byte-at-mod}
 use Rattle.strumok.specs.Refusals.{Test, limit, accepted, newPositionAbove, sizeMarkTest, positionTest, targetTest, windowTest, newPositionAboveTest, stateTests, returned, WellFormed}
 use Rattle.strumok.specs.Moving.{movedTo, newPosition}
-use Rattle.strumok.specs.Applying.{keystreamByteOf, withKeystream, advancingTests, applyingTests, applied, appliedTarget, windowTests, windowed, windowedBuffer}
+use Rattle.strumok.specs.Applying.{keystreamByteOf, withKeystream, advancingTests, applyingTests, windowTests}
+use Rattle.strumok.specs.AnyStep.{advancedBy, withKeystreamBy, appliedBy, appliedTargetBy, windowedBy, windowedBufferBy}
 use Rattle.strumok.proofs.Tests.{numbered, returned-first, returned-rest, returned-none, answer-accepted, written-accepted}
 use Rattle.strumok.proofs.Moves.{moved-ahead}
 
@@ -87,16 +88,16 @@ stream-of-state s j =
     byte-at-mod (keystreamWord (iterate (next Ordinary) ((p % 8 + j) / 8) (registersOf s))) (p % 8 + j) (p + j) (omega arith)
     ∙ rw (steps, ← none)
 
-module _ (s : State) (xs : List ℕ) where
-  pub advanced-bytes : {ys : List ℕ} → ys ≡ masked (streamByte (next Ordinary) (registersOf s)) (s .position % 8) xs → ys ≡ withKeystream s xs
-  advanced-bytes e = e ∙ masked-ext (streamByte (next Ordinary) (registersOf s)) (keystreamByteOf s) (s .position % 8) (s .position) xs (λ j h. stream-of-state s j)
+-- with the cipher's step, the state n bytes on and the bytes with the keystream are those of specs/Applying.antt
+pub with-keystream-is : (s : State) (xs : List ℕ) → withKeystreamBy (next Ordinary) s xs ≡ withKeystream s xs
+with-keystream-is s xs = masked-ext (streamByte (next Ordinary) (registersOf s)) (keystreamByteOf s) (s .position % 8) (s .position) xs (λ j h. stream-of-state s j)
 
-  pub advanced-state : {t : State} → t ≡ walked (next Ordinary) ((s .position % 8 + length xs) / 8) s → stateOf (registersOf t) (t .size) (s .position + length xs) ≡ movedTo s (s .position + length xs)
-  advanced-state e =
-      let steps : (s .position % 8 + length xs) / 8 ≡ (s .position + length xs) / 8 - s .position / 8 = omega arith in
-      moved-ahead s (s .position + length xs) (omega arith) (e ∙ ap (λ (n : ℕ). walked (next Ordinary) n s) steps)
+pub advanced-is : (s : State) (n : ℕ) → advancedBy (next Ordinary) s n ≡ movedTo s (s .position + n)
+advanced-is s n =
+    let steps : (s .position % 8 + n) / 8 ≡ (s .position + n) / 8 - s .position / 8 = omega arith in
+    moved-ahead s (s .position + n) (omega arith) (ap (λ (k : ℕ). walked (next Ordinary) k s) steps)
 
--- ---- an accepted portion, its source copied to the target before
+-- ---- an accepted portion, its source copied to the target before, by any step
 
 module _ (s : State) (source target : List ℕ) (ok : returned (applyingTests s (length source) (length target)) ≡ accepted) where
   portion-advances : Advances s (targetTest (length source) (length target)) (length source)
@@ -121,15 +122,15 @@ module _ (s : State) (source target : List ℕ) (ok : returned (applyingTests s 
     pub portion-room : s .position + length (take (length source) copied) ≤ limit
     portion-room = rw front (portion-advances .room)
 
-    pub portion-accepted : {t : State} {ys : List ℕ} → t ≡ movedTo s (s .position + length (take (length source) copied)) → ys ≡ withKeystream s (take (length source) copied)
-        → (record { number = accepted; state = t } ≡ applied s source target) × (ys ++ drop (length source) copied ≡ appliedTarget s source target)
-    portion-accepted et ey =
+    pub portion-accepted : (f : Registers → Registers) {t : State} {ys : List ℕ} → t ≡ advancedBy f s (length (take (length source) copied)) → ys ≡ withKeystreamBy f s (take (length source) copied)
+        → (record { number = accepted; state = t } ≡ appliedBy f s source target) × (ys ++ drop (length source) copied ≡ appliedTargetBy f s source target)
+    portion-accepted f et ey =
         let tests = applyingTests s (length source) (length target) in (
-          answer-accepted tests _ s ok (et ∙ ap (λ (l : List ℕ). movedTo s (s .position + length l)) front),
-          written-accepted tests _ target ok (ap₂ _++_ (ey ∙ ap (withKeystream s) front) back),
+          answer-accepted tests _ s ok (et ∙ ap (λ (l : List ℕ). advancedBy f s (length l)) front),
+          written-accepted tests _ target ok (ap₂ _++_ (ey ∙ ap (withKeystreamBy f s) front) back),
         )
 
--- ---- an accepted window
+-- ---- an accepted window, by any step
 
 module _ (s : State) (buffer : List ℕ) (start count : ℕ) (ok : returned (windowTests s (length buffer) start count) ≡ accepted) where
   window-advances : Advances s (windowTest (length buffer) start count) count
@@ -150,11 +151,11 @@ module _ (s : State) (buffer : List ℕ) (start count : ℕ) (ok : returned (win
   pub window-room : s .position + length part ≤ limit
   window-room = rw part-length (window-advances .room)
 
-  pub window-accepted : {t : State} {ys : List ℕ} → t ≡ movedTo s (s .position + length part) → ys ≡ withKeystream s part
-      → (record { number = accepted; state = t } ≡ windowed s buffer start count) × (putMid start (start + count - start) buffer ys ≡ windowedBuffer s buffer start count)
-  window-accepted {t} {ys} et ey =
+  pub window-accepted : (f : Registers → Registers) {t : State} {ys : List ℕ} → t ≡ advancedBy f s (length part) → ys ≡ withKeystreamBy f s part
+      → (record { number = accepted; state = t } ≡ windowedBy f s buffer start count) × (putMid start (start + count - start) buffer ys ≡ windowedBufferBy f s buffer start count)
+  window-accepted f et ey =
       let tests = windowTests s (length buffer) start count in
       let e : start + count - start ≡ count = omega arith in (
-        answer-accepted tests _ s ok (et ∙ ap (λ (n : ℕ). movedTo s (s .position + n)) part-length),
-        written-accepted tests _ buffer ok (rw (e, drop-drop count start buffer) (ap (λ (l : List ℕ). take start buffer ++ (l ++ drop (start + count) buffer)) (ey ∙ ap (withKeystream s) part-is))),
+        answer-accepted tests _ s ok (et ∙ ap (advancedBy f s) part-length),
+        written-accepted tests _ buffer ok (rw (e, drop-drop count start buffer) (ap (λ (l : List ℕ). take start buffer ++ (l ++ drop (start + count) buffer)) (ey ∙ ap (withKeystreamBy f s) part-is))),
       )

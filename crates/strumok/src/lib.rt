@@ -7,7 +7,9 @@ mod opening;
 pub mod refusals;
 
 pub use applying::apply;
+pub use applying::apply_with;
 pub use applying::window;
+pub use applying::window_with;
 pub use checking::check;
 pub use moving::move_by;
 pub use opening::open;

@@ -9,9 +9,8 @@ use crate::refusals;
 use crate::refused;
 use crate::state_number;
 use columns::matrix_inverse_tables;
-use columns::substitution_tables;
+use columns::step_tables;
 use galois::alpha_inverse_table;
-use galois::alpha_table;
 use generator::Kind;
 use generator::State;
 use generator::backward;
@@ -45,10 +44,8 @@ fn span_of(distance: i64) -> Span
 fn walk_on(s: State, n: u64) -> State
     ensures { λ r. ⌜ r ≡ walked (next Ordinary) n s ⌝ }
 {
-    let tables = substitution_tables();
-    let alpha = alpha_table();
-    let inverse = alpha_inverse_table();
-    forward(Kind::Ordinary, s, n, &tables, &alpha, &inverse)
+    let tables = step_tables();
+    forward(Kind::Ordinary, s, n, &tables)
 }
 
 // n ordinary steps back, the tables taken once.

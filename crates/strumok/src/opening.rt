@@ -6,9 +6,7 @@ ghost use Rattle.strumok.specs.Refusals.{returned};
 ghost use Rattle.strumok.specs.Opening.{blank, openingTests, opened};
 use crate::Answer;
 use crate::refusals;
-use columns::substitution_tables;
-use galois::alpha_inverse_table;
-use galois::alpha_table;
+use columns::step_tables;
 use generator::Kind;
 use generator::State;
 use generator::forward;
@@ -48,11 +46,9 @@ fn opening_number(key: &[u8], iv: &[u8]) -> u64
 fn initialise(s: State) -> State
     ensures { λ r. ⌜ r ≡ withRegisters s (initialised (registersOf s)) ⌝ }
 {
-    let tables = substitution_tables();
-    let alpha = alpha_table();
-    let inverse = alpha_inverse_table();
-    let t = forward(Kind::Initial, s, 32, &tables, &alpha, &inverse);
-    forward(Kind::Ordinary, t, 1, &tables, &alpha, &inverse)
+    let tables = step_tables();
+    let t = forward(Kind::Initial, s, 32, &tables);
+    forward(Kind::Ordinary, t, 1, &tables)
 }
 
 // The state of a key of 32 or 64 bytes and an IV of 32, at position 0; or a refusal, with the blank state.

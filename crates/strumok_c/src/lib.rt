@@ -2,15 +2,21 @@
 ghost use mathlib.Core.Path.{_≡_};
 ghost use Rattle.strumok.specs.Opening.{opened};
 ghost use Rattle.strumok.specs.Moving.{moved};
+ghost use Rattle.generator.specs.declared.Kind.the-variants.{Ordinary};
+ghost use Rattle.generator.specs.Functions.{stepTables, nextIn};
 ghost use Rattle.strumok.specs.Applying.{applied, appliedTarget, windowed, windowedBuffer};
+ghost use Rattle.strumok.specs.AnyStep.{appliedBy, appliedTargetBy, windowedBy, windowedBufferBy};
 ghost use Rattle.strumok.specs.Checking.{checked, checkedTarget};
 ghost use Rattle.strumok_c.specs.TwentyWords.{stateIn, wordsOf};
+use columns::step_tables;
 use generator::State;
 use strumok::apply;
+use strumok::apply_with;
 use strumok::check;
 use strumok::move_by;
 use strumok::open;
 use strumok::window;
+use strumok::window_with;
 
 // The state that twenty words hold.
 fn state_in(words: [u64; 20]) -> State
@@ -133,5 +139,52 @@ pub extern "C" fn strumok_check(state: &[u64; 20], iv: &[u8], key: &mut [u8]) ->
     ensures { λ _. ⌜ now (key .exit) ≡ checkedTarget (stateIn (now (state .entry))) (now (iv .entry)) (now (key .entry)) ⌝ }
 {
     let answer = check(state_in(*state), iv, key);
+    answer.number
+}
+
+// ---- with tables that the caller holds
+
+// The ten tables of the cipher's step, to the caller's.
+#[no_mangle]
+pub extern "C" fn strumok_tables(tables: &mut [[u64; 256]; 10])
+    ensures { λ _. ⌜ now (tables .exit) ≡ stepTables ⌝ }
+{
+    *tables = step_tables();
+}
+
+// As `strumok_apply`, by the tables that are lent.
+#[no_mangle]
+pub extern "C" fn strumok_apply_with(
+    state: &mut [u64; 20],
+    tables: &[[u64; 256]; 10],
+    source: &[u8],
+    target: &mut [u8],
+) -> u64
+    ensures { λ r. ⌜ r ≡ appliedBy (nextIn (now (tables .entry)) Ordinary) (stateIn (now (state .entry))) (now (source .entry)) (now (target .entry)) .number ⌝ }
+    ensures { λ _. ⌜ now (state .exit) ≡ wordsOf (appliedBy (nextIn (now (tables .entry)) Ordinary) (stateIn (now (state .entry))) (now (source .entry)) (now (target .entry)) .state) ⌝ }
+    ensures { λ _. ⌜ now (target .exit) ≡ appliedTargetBy (nextIn (now (tables .entry)) Ordinary) (stateIn (now (state .entry))) (now (source .entry)) (now (target .entry)) ⌝ }
+{
+    let answer = apply_with(state_in(*state), tables, source, target);
+    let applied = answer.state;
+    *state = words_of(applied);
+    answer.number
+}
+
+// As `strumok_window`, by the tables that are lent.
+#[no_mangle]
+pub extern "C" fn strumok_window_with(
+    state: &mut [u64; 20],
+    tables: &[[u64; 256]; 10],
+    buffer: &mut [u8],
+    start: usize,
+    count: usize,
+) -> u64
+    ensures { λ r. ⌜ r ≡ windowedBy (nextIn (now (tables .entry)) Ordinary) (stateIn (now (state .entry))) (now (buffer .entry)) start count .number ⌝ }
+    ensures { λ _. ⌜ now (state .exit) ≡ wordsOf (windowedBy (nextIn (now (tables .entry)) Ordinary) (stateIn (now (state .entry))) (now (buffer .entry)) start count .state) ⌝ }
+    ensures { λ _. ⌜ now (buffer .exit) ≡ windowedBufferBy (nextIn (now (tables .entry)) Ordinary) (stateIn (now (state .entry))) (now (buffer .entry)) start count ⌝ }
+{
+    let answer = window_with(state_in(*state), tables, buffer, start, count);
+    let windowed = answer.state;
+    *state = words_of(windowed);
     answer.number
 }

@@ -2,7 +2,7 @@
 -- Assumes nothing.
 use borrow.Author.Needs.{needs}
 use Rattle.generator.specs.declared.Kind.the-variants.{Ordinary}
-use Rattle.generator.specs.Functions.{nextBy}
+use Rattle.generator.specs.Functions.{nextIn}
 use Rattle.generator.proofs.Iterate.{walked-eight, stepped-state}
 use Rattle.generator.proofs.eight_steps.Statement.{statement}
 use Rattle.generator.proofs.eight_steps.Tie as tie
@@ -18,7 +18,7 @@ returns c =
     let c2 = c3 .before in
     let c1 = c2 .before in
     let a = c1 .before .args in
-    walked-eight (nextBy (a .tables .now) (a .alpha .now) (a .inverse .now) Ordinary) (a .s) (stepped-state (c1 .step .ensures)) (stepped-state (c2 .step2 .ensures)) (stepped-state (c3 .step3 .ensures)) (stepped-state (c4 .step4 .ensures)) (stepped-state (c5 .step5 .ensures)) (stepped-state (c6 .step6 .ensures)) (stepped-state (c7 .step7 .ensures)) (stepped-state (c8 .step8 .ensures))
+    walked-eight (nextIn (a .tables .now) Ordinary) (a .s) (stepped-state (c1 .step .ensures)) (stepped-state (c2 .step2 .ensures)) (stepped-state (c3 .step3 .ensures)) (stepped-state (c4 .step4 .ensures)) (stepped-state (c5 .step5 .ensures)) (stepped-state (c6 .step6 .ensures)) (stepped-state (c7 .step7 .ensures)) (stepped-state (c8 .step8 .ensures))
 
 pub eight-steps-spec : {M : Type 1} → statement M
 eight-steps-spec =

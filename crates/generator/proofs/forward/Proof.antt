@@ -4,7 +4,7 @@ use Prim.Native.Nat.{_*_, _/_, _%_}
 use native.Mathlib.Omega.{arith}
 use borrow.Author.Needs.{needs}
 use Rattle.generator.specs.declared.Kind.the-variants.{Ordinary}
-use Rattle.generator.specs.Functions.{nextBy}
+use Rattle.generator.specs.Functions.{nextIn}
 use Rattle.generator.proofs.Iterate.{walked-on}
 use Rattle.generator.proofs.forward.Statement.{statement}
 use Rattle.generator.proofs.forward.Tie as tie
@@ -13,7 +13,7 @@ returns : tie.Need-returns
 returns c =
     let k = c .before .before in
     let a = k .before .before .args in
-    rw (k .enum-told .given .1) (walked-on (nextBy (a .tables .now) (a .alpha .now) (a .inverse .now) Ordinary) (a .s) (8 * (a .n / 8)) (a .n % 8) (a .n) (c .before .steps-by-eight .ensures) (c .steps-by-one .ensures) (omega arith))
+    rw (k .enum-told .given .1) (walked-on (nextIn (a .tables .now) Ordinary) (a .s) (8 * (a .n / 8)) (a .n % 8) (a .n) (c .before .steps-by-eight .ensures) (c .steps-by-one .ensures) (omega arith))
 
 returns-2 : tie.Need-returns-2
 returns-2 c = rw (c .before .enum-told2 .given .1) (c .steps-by-one2 .ensures)

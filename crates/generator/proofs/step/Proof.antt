@@ -9,7 +9,7 @@ returns : tie.Need-returns
 unfolding nextWith keystreamWord
 returns c =
     let m = c .before .before .before in
-    simp (c .wrapping-add-u64 .ensures, c .before .substitute-word-by-tables .ensures, c .before .before .shift-in .ensures, m .mix-in .ensures, m .before .feedback .ensures, m .before .before .filter .ensures)
+    simp (c .wrapping-add-u64 .ensures, c .before .substitute .ensures, c .before .before .shift-in .ensures, m .mix-in .ensures, m .before .feedback .ensures, m .before .before .filter .ensures)
 
 pub step-spec : {M : Type 1} → statement M
 step-spec =

@@ -6,28 +6,28 @@ use native.Mathlib.Omega.{arith}
 use borrow.Author.Needs.{needs}
 use Rattle.generator.specs.declared.Kind.the-variants.{Ordinary}
 use Rattle.generator.specs.Registers.{walked}
-use Rattle.generator.specs.Functions.{nextBy}
+use Rattle.generator.specs.Functions.{nextIn}
 use Rattle.generator.proofs.Iterate.{walked-on}
 use Rattle.generator.proofs.steps_by_eight.Statement.{statement}
 use Rattle.generator.proofs.steps_by_eight.Tie as tie
 
 abbrev Inv-loop : tie.InvT-loop
-Inv-loop n tables alpha inverse t₀ i₀ t i = (t ≡ walked (nextBy tables alpha inverse Ordinary) (8 * i) t₀) × (i ≤ n)
+Inv-loop n tables t₀ i₀ t i = (t ≡ walked (nextIn tables Ordinary) (8 * i) t₀) × (i ≤ n)
 
 abbrev μ-loop : tie.MeasureT-loop
-μ-loop n tables alpha inverse t₀ i₀ t i = n - i
+μ-loop n tables t₀ i₀ t i = n - i
 
 loop-again : tie.Need-loop-again Inv-loop μ-loop
 loop-again c =
     let l = c .before .before .loop in
     let a = c .before .before .before .args in
-    (walked-on (nextBy (a .tables .now) (a .alpha .now) (a .inverse .now) Ordinary) (a .s) (8 * l .lines) 8 (8 * (l .lines + 1)) (l .inv .0) (c .eight-steps .ensures) (omega arith), omega arith)
+    (walked-on (nextIn (a .tables .now) Ordinary) (a .s) (8 * l .lines) 8 (8 * (l .lines + 1)) (l .inv .0) (c .eight-steps .ensures) (omega arith), omega arith)
 
 returns : tie.Need-returns Inv-loop μ-loop
 returns c =
     let l = c .before .loop in
     let a = c .before .before .args in
-    walked-on (nextBy (a .tables .now) (a .alpha .now) (a .inverse .now) Ordinary) (a .s) (8 * l .lines) 0 (8 * a .n) (l .inv .0) refl (omega arith)
+    walked-on (nextIn (a .tables .now) Ordinary) (a .s) (8 * l .lines) 0 (8 * a .n) (l .inv .0) refl (omega arith)
 
 pub steps-by-eight-spec : {M : Type 1} → statement M
 steps-by-eight-spec =

@@ -5,28 +5,28 @@ use mathlib.Core.Path.{_≡_, refl}
 use native.Mathlib.Omega.{arith}
 use borrow.Author.Needs.{needs}
 use Rattle.generator.specs.Registers.{walked}
-use Rattle.generator.specs.Functions.{nextBy}
+use Rattle.generator.specs.Functions.{nextIn}
 use Rattle.generator.proofs.Iterate.{walked-on, stepped-state}
 use Rattle.generator.proofs.steps_by_one.Statement.{statement}
 use Rattle.generator.proofs.steps_by_one.Tie as tie
 
 abbrev Inv-loop : tie.InvT-loop
-Inv-loop kind n tables alpha inverse t₀ i₀ t i = (t ≡ walked (nextBy tables alpha inverse kind) i t₀) × (i ≤ n)
+Inv-loop kind n tables t₀ i₀ t i = (t ≡ walked (nextIn tables kind) i t₀) × (i ≤ n)
 
 abbrev μ-loop : tie.MeasureT-loop
-μ-loop kind n tables alpha inverse t₀ i₀ t i = n - i
+μ-loop kind n tables t₀ i₀ t i = n - i
 
 loop-again : tie.Need-loop-again Inv-loop μ-loop
 loop-again c =
     let l = c .before .before .before .loop in
     let a = c .before .before .before .before .args in
-    (walked-on (nextBy (a .tables .now) (a .alpha .now) (a .inverse .now) (a .kind)) (a .s) (l .taken) 1 _ (l .inv .0) (stepped-state (c .before .step .ensures)) refl, omega arith)
+    (walked-on (nextIn (a .tables .now) (a .kind)) (a .s) (l .taken) 1 _ (l .inv .0) (stepped-state (c .before .step .ensures)) refl, omega arith)
 
 returns : tie.Need-returns Inv-loop μ-loop
 returns c =
     let l = c .before .loop in
     let a = c .before .before .args in
-    walked-on (nextBy (a .tables .now) (a .alpha .now) (a .inverse .now) (a .kind)) (a .s) (l .taken) 0 (a .n) (l .inv .0) refl (omega arith)
+    walked-on (nextIn (a .tables .now) (a .kind)) (a .s) (l .taken) 0 (a .n) (l .inv .0) refl (omega arith)
 
 pub steps-by-one-spec : {M : Type 1} → statement M
 steps-by-one-spec =

@@ -1,22 +1,23 @@
--- `keystream::apply_blocks` meets its contract: after each turn, 64 bytes more are done.
+-- `keystream::apply_blocks` meets its contract: after each turn, 128 bytes more are done.
 -- Assumes nothing.
 use mathlib.Core.Path.{_≡_, _∙_}
 use Prim.Native.Nat.{_+_, _-_, _%_, _≤_}
 use native.Mathlib.Omega.{arith}
 use lib.ListN.{length}
-use Rattle.keystream.specs.Functions.{stepOver}
+use Rattle.generator.specs.declared.Kind.the-variants.{Ordinary}
+use Rattle.generator.specs.Functions.{nextIn}
 use Rattle.keystream.proofs.Parts.{Done, done-none, done-length, done-all, part-length, done-part}
 use Rattle.keystream.proofs.apply_blocks.Statement.{statement}
 use Rattle.keystream.proofs.apply_blocks.Tie as tie
 
 abbrev Inv-loop : tie.InvT-loop
-Inv-loop tables alpha inverse buffer₀ t₀ i₀ buffer t i = Done (stepOver tables alpha inverse) 0 t₀ buffer₀ i t buffer × (i % 64 ≡ 0)
+Inv-loop tables buffer₀ t₀ i₀ buffer t i = Done (nextIn tables Ordinary) 0 t₀ buffer₀ i t buffer × (i % 128 ≡ 0)
 
 abbrev μ-loop : tie.MeasureT-loop
-μ-loop tables alpha inverse buffer₀ t₀ i₀ buffer t i = length buffer₀ - i
+μ-loop tables buffer₀ t₀ i₀ buffer t i = length buffer₀ - i
 
 -- there is room for another
-room : (c : tie.In-loop Inv-loop μ-loop) → c .before .loop .i + 64 ≤ length (c .before .before .before .args .buffer .now)
+room : (c : tie.In-loop Inv-loop μ-loop) → c .before .loop .i + 128 ≤ length (c .before .before .before .args .buffer .now)
 room c = omega (arith, c .before .loop .inv .1, done-length _ _ _ _ (c .before .loop .inv .0), c .before .before .before .pre, c)
 
 loop-again : tie.Need-loop-again Inv-loop μ-loop
@@ -25,7 +26,7 @@ loop-again c =
     let h = k .before .before in
     let l = h .before .loop in
     let a = h .before .before .before .args in
-    (done-part _ 0 (a .s) (a .buffer .now) (l .inv .0) (l .i + 64) (omega arith) (room h) (omega (arith, l .inv .1)) (k .apply-eight .ensures), omega (arith, l .inv .1))
+    (done-part _ 0 (a .s) (a .buffer .now) (l .inv .0) (l .i + 128) (omega arith) (room h) (omega (arith, l .inv .1)) (k .apply-sixteen .ensures), omega (arith, l .inv .1))
 
 pub apply-blocks-spec : {M : Type 1} → statement M
 apply-blocks-spec =
@@ -38,7 +39,7 @@ apply-blocks-spec =
     (λ c. omega arith)
     (λ c. omega arith)
     (λ c. omega (arith, room c, done-length _ _ _ _ (c .before .loop .inv .0)))
-    (λ c κs. part-length _ 0 _ _ (c .before .before .loop .inv .0) (c .before .before .loop .i + 64) (omega arith) (room (c .before)) ∙ omega arith)
+    (λ c κs. part-length _ 0 _ _ (c .before .before .loop .inv .0) (c .before .before .loop .i + 128) (omega arith) (room (c .before)) ∙ omega arith)
     (λ c. omega (arith, room (c .before .before .before .before)))
     loop-again
     (λ c. done-length _ _ _ _ (c .before .loop .inv .0))

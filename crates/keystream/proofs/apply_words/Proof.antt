@@ -4,16 +4,17 @@ use mathlib.Core.Path.{_≡_, _∙_}
 use Prim.Native.Nat.{_+_, _-_, _%_, _≤_}
 use native.Mathlib.Omega.{arith}
 use lib.ListN.{length}
-use Rattle.keystream.specs.Functions.{stepOver}
+use Rattle.generator.specs.declared.Kind.the-variants.{Ordinary}
+use Rattle.generator.specs.Functions.{nextIn}
 use Rattle.keystream.proofs.Parts.{Done, done-none, done-length, done-all, part-length, done-part}
 use Rattle.keystream.proofs.apply_words.Statement.{statement}
 use Rattle.keystream.proofs.apply_words.Tie as tie
 
 abbrev Inv-loop : tie.InvT-loop
-Inv-loop tables alpha inverse buffer₀ t₀ i₀ buffer t i = Done (stepOver tables alpha inverse) 0 t₀ buffer₀ i t buffer × (i % 8 ≡ 0)
+Inv-loop tables buffer₀ t₀ i₀ buffer t i = Done (nextIn tables Ordinary) 0 t₀ buffer₀ i t buffer × (i % 8 ≡ 0)
 
 abbrev μ-loop : tie.MeasureT-loop
-μ-loop tables alpha inverse buffer₀ t₀ i₀ buffer t i = length buffer₀ - i
+μ-loop tables buffer₀ t₀ i₀ buffer t i = length buffer₀ - i
 
 -- there is room for another
 room : (c : tie.In-loop Inv-loop μ-loop) → c .before .loop .i + 8 ≤ length (c .before .before .before .args .buffer .now)

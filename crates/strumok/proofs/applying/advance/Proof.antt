@@ -1,7 +1,11 @@
 -- `strumok::applying::advance` meets its contract.
 -- Assumes nothing.
+use mathlib.Core.Path.{ap}
+use Prim.Native.Nat.{_+_}
 use borrow.Author.Needs.{needs}
-use Rattle.strumok.proofs.Portions.{advanced-state, advanced-bytes}
+use lib.ListN.{length}
+use Rattle.generator.specs.declared.State.{State}
+use Rattle.generator.specs.Registers.{registersOf, stateOf}
 use Rattle.strumok.proofs.applying.advance.Statement.{statement}
 use Rattle.strumok.proofs.applying.advance.Tie as tie
 
@@ -9,7 +13,7 @@ returns : tie.Need-returns
 returns c =
     let k = c .before .before .before in
     let a = k .before .before .before .args in
-    (advanced-state (a .s) (a .buffer .now) (k .apply-keystream .ensures .0), advanced-bytes (a .s) (a .buffer .now) (k .apply-keystream .ensures .1))
+    (ap (λ (t : State). stateOf (registersOf t) (t .size) (a .s .position + length (a .buffer .now))) (k .apply-keystream .ensures .state), k .apply-keystream .ensures .bytes)
 
 pub advance-spec : {M : Type 1} → statement M
 advance-spec = tie.close (tie.spec (λ c κs. search needs) (λ c. search needs) (λ c. search needs) returns)

@@ -1,61 +1,24 @@
--- `strumok::applying::apply` meets its contract: refused, nothing is done; else the source is copied and the keystream applied to the copy.
+-- `strumok::applying::apply` meets its contract: the tables are the cipher's.
 -- Assumes nothing.
-use mathlib.Core.Path.{_≡_, sym, ap, _∙_}
+use mathlib.Core.Path.{ap, _∙_}
+use mathlib.Core.List.{List}
+use Prim.Native.Nat.{ℕ}
 use borrow.Author.Needs.{needs}
-use lib.ListN.{length}
-use Rattle.strumok.specs.Refusals.{accepted, returned}
-use Rattle.strumok.specs.Applying.{applyingTests}
-use Rattle.strumok.proofs.Tests.{answer-refused, written-refused}
-use Rattle.strumok.proofs.Portions.{target-length, front, copied-length, portion-room, portion-accepted}
+use Rattle.generator.specs.declared.Kind.the-variants.{Ordinary}
+use Rattle.generator.specs.Functions.{nextIn}
+use Rattle.strumok.specs.AnyStep.{appliedBy, appliedTargetBy}
+use Rattle.strumok.proofs.AnyStepLaws.{any-step-laws}
 use Rattle.strumok.proofs.applying.apply.Statement.{statement}
 use Rattle.strumok.proofs.applying.apply.Tie as tie
 
 returns : tie.Need-returns
 returns c =
     let k = c .before .before in
-    let a = k .before .before .before .args in
-    let tests = applyingTests (a .s) (length (a .source .now)) (length (a .target .now)) in (
-      c .refused .ensures ∙ answer-refused tests _ (a .s) (k .advancing-number .ensures) (c .before .if1 .taken),
-      written-refused tests _ (a .target .now) (k .advancing-number .ensures) (c .before .if1 .taken),
+    let t = k .before .before .before in
+    let a = t .before .before .before .args in (
+      k .apply-with .ensures .0 ∙ ap (λ (l : List (List ℕ)). appliedBy (nextIn l Ordinary) (a .s) (a .source .now) (a .target .now)) (t .step-tables .ensures) ∙ any-step-laws .applied-by (a .s) (a .source .now) (a .target .now),
+      k .apply-with .ensures .1 ∙ ap (λ (l : List (List ℕ)). appliedTargetBy (nextIn l Ordinary) (a .s) (a .source .now) (a .target .now)) (t .step-tables .ensures) ∙ any-step-laws .applied-target-by (a .s) (a .source .now) (a .target .now),
     )
 
--- past the tests
-ok : (c : tie.Else1) → let a = c .before .before .before .before .args in returned (applyingTests (a .s) (length (a .source .now)) (length (a .target .now))) ≡ accepted
-ok c = sym (c .before .advancing-number .ensures) ∙ c .if1 .left
-
-copy-requires : tie.Need-copy-requires
-copy-requires c κs = let a = c .before .before .before .before .before .args in target-length (a .s) (a .source .now) (a .target .now) (ok (c .before))
-
-slice-relend-prefix-advance : tie.Need-slice-relend-prefix-advance
-slice-relend-prefix-advance c =
-    let d = c .before .before in
-    let else = d .before .before in
-    let a = else .before .before .before .before .args in
-    copied-length (a .s) (a .source .now) (a .target .now) (ok else) (d .copy .ensures .1)
-
-slice-aggregate-advance : tie.Need-slice-aggregate-advance
-slice-aggregate-advance c =
-    let d = c .before .before .before in
-    let else = d .before .before in
-    let a = else .before .before .before .before .args in
-    sym (ap length (front (a .s) (a .source .now) (a .target .now) (ok else) (d .copy .ensures .1)))
-
-advance-requires : tie.Need-advance-requires
-advance-requires c κs =
-    let d = c .before .before .before in
-    let else = d .before .before in
-    let a = else .before .before .before .before .args in
-    portion-room (a .s) (a .source .now) (a .target .now) (ok else) (d .copy .ensures .1)
-
-returns-2 : tie.Need-returns-2
-returns-2 c =
-    let k = c .before .before in
-    let d = k .before .before .before .before in
-    let else = d .before .before in
-    let a = else .before .before .before .before .args in
-    portion-accepted (a .s) (a .source .now) (a .target .now) (ok else) (d .copy .ensures .1) (k .advance .ensures .0) (k .advance .ensures .1)
-
 pub apply-spec : {M : Type 1} → statement M
-apply-spec =
-    tie.close
-    (tie.spec (λ c κs. search needs) (λ c κs. search needs) returns copy-requires slice-relend-prefix-advance slice-aggregate-advance advance-requires (λ c. search needs) returns-2)
+apply-spec = tie.close (tie.spec (λ c κs. search needs) (λ c κs. search needs) (λ c. search needs) returns)

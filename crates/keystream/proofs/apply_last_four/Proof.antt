@@ -1,0 +1,32 @@
+-- `keystream::apply_last_four` meets its contract: word by word.
+-- Assumes nothing.
+use mathlib.Core.Path.{refl}
+use native.Mathlib.Omega.{arith}
+use borrow.Author.Needs.{needs}
+use Rattle.keystream.proofs.Parts.{done-none, done-part, done-all, done-length}
+use Rattle.keystream.proofs.apply_last_four.Statement.{statement}
+use Rattle.keystream.proofs.apply_last_four.Tie as tie
+
+returns : tie.Need-returns
+returns c =
+    let w4 = c .before .before in
+    let w3 = w4 .before .before .before .before in
+    let w2 = w3 .before .before .before .before in
+    let w1 = w2 .before .before .before .before in
+    let start = w1 .before .before .before in
+    let d0 = done-none _ 0 (start .args .s) (start .args .part .now) (omega arith) in
+    let d1 = done-part _ 0 _ _ d0 8 (omega arith) (omega (arith, start .pre)) refl (w1 .apply-one .ensures) in
+    let d2 = done-part _ 0 _ _ d1 16 (omega arith) (omega (arith, start .pre)) refl (w2 .apply-one2 .ensures) in
+    let d3 = done-part _ 0 _ _ d2 24 (omega arith) (omega (arith, start .pre)) refl (w3 .apply-one3 .ensures) in
+    let d4 = done-part _ 0 _ _ d3 32 (omega arith) (omega (arith, start .pre)) refl (w4 .apply-one4 .ensures) in
+    done-all _ 0 _ _ d4 (omega (arith, done-length _ 0 _ _ d4, start .pre))
+
+pub apply-last-four-spec : {M : Type 1} → statement M
+apply-last-four-spec =
+    tie.close
+    (tie.spec
+    (λ c. search needs) (λ c. search needs) (λ c. search needs) (λ c κs. search needs)
+    (λ c. search needs) (λ c. search needs) (λ c. search needs) (λ c κs. search needs)
+    (λ c. search needs) (λ c. search needs) (λ c. search needs) (λ c κs. search needs)
+    (λ c. search needs) (λ c. search needs) (λ c. search needs) (λ c κs. search needs)
+    (λ c. search needs) returns)
