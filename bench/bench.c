@@ -2,7 +2,7 @@
  * The benchmark: the proved library and the cipher in C, on the same input. tools/bench calls it, and makes one table of what it prints.
  *
  *   bench check PI VECTORS       tries the cipher in C by the published vectors and beside the proved library; status 1 where they differ
- *   bench time PI                runs each row of the table by both, in turn, and prints the best times
+ *   bench time PI                runs each row of the table by both, in turn, for some seconds, and prints the best times
  *   bench count PI ROW CIPHER    runs one row by one of them, `proved` or `c`; the function to be counted is `measured`
  *
  * PI and VECTORS are the files of the folder data.
@@ -18,18 +18,40 @@
 #include <string.h>
 #include <time.h>
 
-enum { WORDS = STRUMOK_STATE_WORDS, IV = 32, LONGEST = 64, LENGTH = 80, MIB = 1048576, SAMPLES = 21 };
+enum { WORDS = STRUMOK_STATE_WORDS, IV = 32, LONGEST = 64, LENGTH = 80, MIB = 1048576, ROW_SECONDS = 3 };
 
 struct cipher {
-    const char *name;
     uint64_t (*open)(const uint8_t *, size_t, const uint8_t *, size_t, uint64_t *);
     uint64_t (*apply)(uint64_t *, const uint8_t *, size_t, uint8_t *, size_t);
+    uint64_t (*window)(uint64_t *, uint8_t *, size_t, size_t, size_t);
     uint64_t (*move)(uint64_t *, int64_t);
     uint64_t (*check)(const uint64_t *, const uint8_t *, size_t, uint8_t *, size_t);
 };
 
-static const struct cipher proved = {"proved", strumok_open, strumok_apply, strumok_move, strumok_check};
-static const struct cipher in_c = {"c", strumok_in_c_open, strumok_in_c_apply, strumok_in_c_move, strumok_in_c_check};
+/* The tables that the proved library is lent; they are filled once, at the start, as those of the cipher in C are. */
+static uint64_t tables[STRUMOK_TABLES_WORDS];
+
+static uint64_t apply_with(uint64_t *state, const uint8_t *from, size_t from_len, uint8_t *to, size_t to_len)
+{
+    return strumok_apply_with(state, tables, from, from_len, to, to_len);
+}
+
+static uint64_t window_with(uint64_t *state, uint8_t *buffer, size_t buffer_len, size_t start, size_t count)
+{
+    return strumok_window_with(state, tables, buffer, buffer_len, start, count);
+}
+
+/* In C a window is a portion to where it came from. None of this program ends past its buffer. */
+static uint64_t window_in_c(uint64_t *state, uint8_t *buffer, size_t buffer_len, size_t start, size_t count)
+{
+    (void)buffer_len;
+    return strumok_in_c_apply(state, buffer + start, count, buffer + start, count);
+}
+
+/* The proved library by held tables, and by tables that each call brings in anew; and the cipher in C. */
+static const struct cipher held = {strumok_open, apply_with, window_with, strumok_move, strumok_check};
+static const struct cipher anew = {strumok_open, strumok_apply, strumok_window, strumok_move, strumok_check};
+static const struct cipher in_c = {strumok_in_c_open, strumok_in_c_apply, window_in_c, strumok_in_c_move, strumok_in_c_check};
 
 static uint8_t key[LENGTH], iv[LENGTH], source[MIB], target[MIB], other_target[MIB];
 
@@ -140,26 +162,43 @@ static void set_states(const uint64_t *state)
 
 static void compare_open(size_t key_len, size_t iv_len)
 {
-    const uint64_t number = proved.open(key, key_len, iv, iv_len, states[0]);
+    const uint64_t number = strumok_open(key, key_len, iv, iv_len, states[0]);
 
     expect(in_c.open(key, key_len, iv, iv_len, states[1]) == number, "the numbers of an opening");
     compare_states();
 }
 
-/* A portion from some place in the source to some place in the target; bytes before and behind it are compared too. */
-static void compare_apply(size_t length, size_t target_len)
+/* Both targets, as far as a portion of this length from one of the first places on may have written, and behind it. */
+static void compare_targets(size_t length)
+{
+    expect(memcmp(target, other_target, length < MIB - 256 ? length + 256 : MIB) == 0, "the targets are equal");
+}
+
+/* A portion from some place in the source to some place in the target, by the proved library with held tables or without. */
+static void compare_apply(const struct cipher *proved, size_t length, size_t target_len)
 {
     const size_t from = random_below(64), to = random_below(64);
-    const uint64_t number = proved.apply(states[0], source + from, length, target + to, target_len);
+    const uint64_t number = proved->apply(states[0], source + from, length, target + to, target_len);
 
     expect(in_c.apply(states[1], source + from, length, other_target + to, target_len) == number, "the numbers of a portion");
-    expect(memcmp(target, other_target, length < MIB - 256 ? length + 256 : MIB) == 0, "the targets are equal");
+    compare_targets(length);
+    compare_states();
+}
+
+/* The same in place. */
+static void compare_window(const struct cipher *proved, size_t length)
+{
+    const size_t start = random_below(64);
+    const uint64_t number = proved->window(states[0], target, MIB, start, length);
+
+    expect(in_c.window(states[1], other_target, MIB, start, length) == number, "the numbers of a window");
+    compare_targets(length);
     compare_states();
 }
 
 static void compare_move(int64_t distance)
 {
-    const uint64_t number = proved.move(states[0], distance);
+    const uint64_t number = strumok_move(states[0], distance);
 
     expect(in_c.move(states[1], distance) == number, "the numbers of a move");
     compare_states();
@@ -168,7 +207,7 @@ static void compare_move(int64_t distance)
 static uint64_t compare_check(size_t iv_len, size_t key_len)
 {
     uint8_t found[2][LENGTH] = {{0}};
-    const uint64_t number = proved.check(states[0], iv, iv_len, found[0], key_len);
+    const uint64_t number = strumok_check(states[0], iv, iv_len, found[0], key_len);
 
     expect(in_c.check(states[1], iv, iv_len, found[1], key_len) == number, "the numbers of a check");
     expect(memcmp(found[0], found[1], LENGTH) == 0, "the keys of a check are equal");
@@ -177,13 +216,14 @@ static uint64_t compare_check(size_t iv_len, size_t key_len)
     return number;
 }
 
-/* A portion, a move or a check of some length, at the position where the last call left the states. */
+/* A portion, a window, a move or a check of some length, at the position where the last call left the states. */
 static void compare_some_call(size_t key_len)
 {
     static const size_t bounds[] = {9, 40, 300, 3000};
+    const struct cipher *proved = random_below(2) == 0 ? &held : &anew;
     const size_t length = random_below(bounds[random_below(4)]);
 
-    switch (random_below(5)) {
+    switch (random_below(7)) {
     case 0:
         compare_move((int64_t)length);
         break;
@@ -193,17 +233,30 @@ static void compare_some_call(size_t key_len)
     case 2:
         expect(compare_check(IV, key_len) == 0, "a state that was opened is accepted");
         break;
+    case 3:
+    case 4:
+        compare_window(proved, length);
+        break;
     default:
-        compare_apply(length, length + random_below(3));
+        compare_apply(proved, length, length + random_below(3));
     }
+}
+
+static void compare_portions(const struct cipher *proved)
+{
+    for (size_t length = 0; length < 400; length++)
+        compare_apply(proved, length, length);
+    for (size_t length = 0; length < 400; length++)
+        compare_window(proved, length);
+    compare_apply(proved, MIB - 64, MIB - 64);
+    compare_window(proved, MIB - 64);
 }
 
 static void compare_lengths(size_t key_len)
 {
     compare_open(key_len, IV);
-    for (size_t length = 0; length < 400; length++)
-        compare_apply(length, length);
-    compare_apply(MIB - 64, MIB - 64);
+    compare_portions(&held);
+    compare_portions(&anew);
     compare_move(STRUMOK_LIMIT - (int64_t)states[0][STRUMOK_POSITION]);
     expect(compare_check(IV, key_len) == 0, "the last position is accepted");
     for (int64_t distance = 0; distance < 400; distance++)
@@ -235,6 +288,18 @@ static void compare_damaged(size_t key_len)
     }
 }
 
+/* A portion and a window from this state, by both forms of the proved library. */
+static void compare_forms(const uint64_t *state, size_t length, size_t target_len)
+{
+    for (unsigned form = 0; form < 2; form++) {
+        const struct cipher *proved = form == 0 ? &held : &anew;
+        set_states(state);
+        compare_apply(proved, length, target_len);
+        set_states(state);
+        compare_window(proved, length);
+    }
+}
+
 /* Each call on states and lengths of which most are refused. */
 static void compare_refusals(void)
 {
@@ -254,8 +319,7 @@ static void compare_refusals(void)
         state[STRUMOK_SIZE_MARK] = sizes[i / 6];
         state[STRUMOK_POSITION] = positions[i % 6];
         for (unsigned j = 0; j < 9; j++) {
-            set_states(state);
-            compare_apply(lengths[j], lengths[random_below(9)]);
+            compare_forms(state, lengths[j], lengths[random_below(9)]);
             set_states(state);
             compare_check(random_below(2) == 0 ? IV : lengths[j], lengths[j]);
         }
@@ -288,27 +352,31 @@ static int check(const char *vectors)
 
 /* ---- The rows ---- */
 
-enum call { OPENING, PORTION, MOVE, CHECK };
+enum call { OPENING, IN_PLACE, PORTION, MOVE, CHECK };
 
 static const struct row {
     const char *name, *label;
+    const struct cipher *proved;
     enum call call;
     int64_t length;     /* of the key, of a portion, of a move, or the position of a check */
     size_t timed_calls; /* in one sample */
     size_t counted_calls;
 } rows[] = {
-    {"open-256", "opening, key of 256 bits (a call)", OPENING, 32, 40000, 8},
-    {"open-512", "opening, key of 512 bits (a call)", OPENING, 64, 40000, 8},
-    {"apply-16", "portions of 16 bytes", PORTION, 16, 262144, 4096},
-    {"apply-64", "portions of 64 bytes", PORTION, 64, 131072, 1024},
-    {"apply-256", "portions of 256 bytes", PORTION, 256, 65536, 256},
-    {"apply-1024", "portions of 1,024 bytes", PORTION, 1024, 16384, 64},
-    {"apply-4096", "portions of 4,096 bytes", PORTION, 4096, 4096, 16},
-    {"apply-1048576", "portions of 1 MiB", PORTION, MIB, 16, 1},
-    {"forward", "move of 1 MiB forward", MOVE, MIB, 16, 1},
-    {"back", "move of 1 MiB back", MOVE, -MIB, 16, 1},
-    {"forward-far", "move of 16 MiB forward", MOVE, STRUMOK_LIMIT, 1, 1},
-    {"check", "check at position 16,777,216", CHECK, STRUMOK_LIMIT, 1, 1},
+    {"open-256", "opening, key of 256 bits (a call)", &held, OPENING, 32, 4000, 8},
+    {"open-512", "opening, key of 512 bits (a call)", &held, OPENING, 64, 4000, 8},
+    {"16", "portions of 16 bytes in place", &held, IN_PLACE, 16, 65536, 4096},
+    {"64", "portions of 64 bytes in place", &held, IN_PLACE, 64, 32768, 1024},
+    {"256", "portions of 256 bytes in place", &held, IN_PLACE, 256, 8192, 256},
+    {"1024", "portions of 1,024 bytes in place", &held, IN_PLACE, 1024, 2048, 64},
+    {"4096", "portions of 4,096 bytes in place", &held, IN_PLACE, 4096, 512, 16},
+    {"1048576", "portions of 1 MiB in place", &held, IN_PLACE, MIB, 2, 1},
+    {"1048576-across", "portions of 1 MiB from a source to a target", &held, PORTION, MIB, 2, 1},
+    {"64-anew", "portions of 64 bytes in place, tables brought in at each call", &anew, IN_PLACE, 64, 8192, 1024},
+    {"1024-anew", "portions of 1,024 bytes in place, tables brought in at each call", &anew, IN_PLACE, 1024, 2048, 64},
+    {"forward", "move of 1 MiB forward", &held, MOVE, MIB, 2, 1},
+    {"back", "move of 1 MiB back", &held, MOVE, -MIB, 2, 1},
+    {"forward-far", "move of 16 MiB forward", &held, MOVE, STRUMOK_LIMIT, 1, 1},
+    {"check", "check at position 16,777,216", &held, CHECK, STRUMOK_LIMIT, 1, 1},
 };
 
 enum { ROWS = sizeof rows / sizeof rows[0] };
@@ -326,6 +394,10 @@ uint64_t measured(const struct cipher *cipher, const struct row *row, size_t cal
     case OPENING:
         for (; calls > 0; calls--)
             numbers |= cipher->open(key, length, iv, IV, state);
+        break;
+    case IN_PLACE:
+        for (; calls > 0; calls--, at = (at + length) % MIB)
+            numbers |= cipher->window(state, target, MIB, at, length);
         break;
     case PORTION:
         for (; calls > 0; calls--, at = (at + length) % MIB)
@@ -370,12 +442,13 @@ static double run(const struct cipher *cipher, const struct row *row, size_t cal
 static int print_times(void)
 {
     for (const struct row *row = rows; row < rows + ROWS; row++) {
-        double best[2] = {1e9, 1e9};
-        for (unsigned sample = 0; sample < SAMPLES; sample++) {
+        double best[2] = {1e9, 1e9}, spent = 0;
+        while (spent < ROW_SECONDS) {
             for (unsigned which = 0; which < 2; which++) {
-                const double seconds = run(which == 0 ? &proved : &in_c, row, row->timed_calls);
+                const double seconds = run(which == 0 ? row->proved : &in_c, row, row->timed_calls);
                 if (seconds < best[which])
                     best[which] = seconds;
+                spent += seconds;
             }
         }
         printf("%s\t%s\t%.9g\t%.9g\n", row->name, row->label, best[0] / (double)row->timed_calls, best[1] / (double)row->timed_calls);
@@ -387,13 +460,13 @@ static int print_times(void)
 /* Runs a row to be counted, and prints by what its instructions are to be divided: the calls where it opens, and else the bytes. */
 static int count(const char *row_name, const char *cipher_name)
 {
-    const struct cipher *cipher = strcmp(cipher_name, in_c.name) == 0 ? &in_c : &proved;
+    const int c = strcmp(cipher_name, "c") == 0;
 
-    if (strcmp(cipher_name, cipher->name) != 0)
+    if (!c && strcmp(cipher_name, "proved") != 0)
         stop("there is no cipher of that name");
     for (const struct row *row = rows; row < rows + ROWS; row++) {
         if (strcmp(row->name, row_name) == 0) {
-            run(cipher, row, row->counted_calls);
+            run(c ? &in_c : row->proved, row, row->counted_calls);
             printf("%lld\n", (long long)row->counted_calls * (row->call == OPENING ? 1 : llabs(row->length)));
             return 0;
         }
@@ -408,6 +481,7 @@ int main(int argc, char **argv)
 
     if (argc > 2 && strumok_in_c_fill_tables(argv[2]) != 0)
         stop("the file of the pi tables cannot be read");
+    strumok_tables(tables);
     if (strcmp(mode, "check") == 0 && argc == 4)
         return check(argv[3]);
     random_bytes(key, LONGEST);

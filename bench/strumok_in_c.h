@@ -1,6 +1,7 @@
 /*
  * The stream cipher Strumok in C, with which the benchmark compares the proved library. The calls, their states and their numbers are those
- * of include/strumok.h; what that header asks of a caller is asked here too. Before any of them the tables are filled, once.
+ * of include/strumok.h; what that header asks of a caller is asked here too, but a portion may have its source as its target. Before any of
+ * them the tables are filled, once.
  */
 #ifndef STRUMOK_IN_C_H
 #define STRUMOK_IN_C_H

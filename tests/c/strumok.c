@@ -1,8 +1,8 @@
 /*
  * The calls of strumok.h from C: the published vectors, from the file that the first argument names; the words of a state where the header
- * says that they are; portions, windows and moves; the check and the key that it hands back; and each refusal, with the lowest number
- * where more than one applies, and with nothing altered. What is expected follows from the vectors, the rule of one step and the worked
- * table of the scope paper.
+ * says that they are; portions, windows and moves; portions and windows by held tables, which are those without; the check and the key
+ * that it hands back; and each refusal, with the lowest number where more than one applies, and with nothing altered. What is expected
+ * follows from the vectors, the rule of one step and the worked table of the scope paper.
  */
 #include "strumok.h"
 
@@ -17,7 +17,7 @@
 #define T_OF_0 UINT64_C(0x14E6CC3F14E6CC3F)
 #define ALPHA_INVERSE UINT64_C(0x47FCC6018A990000)
 
-enum { WORDS = 20, R1 = 16, R2 = 17, SIZE = 18, POSITION = 19, LENGTH = 80, LONGEST = 64, IV = 32 };
+enum { WORDS = 20, R1 = 16, R2 = 17, SIZE = 18, POSITION = 19, LENGTH = 80, LONGEST = 64, IV = 32, TABLES = 2560, LONG = 20000 };
 
 static void expect_number(uint64_t number, uint64_t want, const char *call)
 {
@@ -81,6 +81,23 @@ static void xor_word(uint8_t *bytes, uint64_t z)
         bytes[i] ^= (uint8_t)(z >> (8 * i));
 }
 
+/* The tables that are held, and the calls by them in the form of those without. */
+static uint64_t tables[TABLES];
+
+static uint64_t apply_with(uint64_t *state, const uint8_t *source, size_t source_len, uint8_t *target, size_t target_len)
+{
+    return strumok_apply_with(state, tables, source, source_len, target, target_len);
+}
+
+static uint64_t window_with(uint64_t *state, uint8_t *buffer, size_t buffer_len, size_t start, size_t count)
+{
+    return strumok_window_with(state, tables, buffer, buffer_len, start, count);
+}
+
+/* Both forms of a portion and of a window: without held tables, and by them. */
+static uint64_t (*const apply[2])(uint64_t *, const uint8_t *, size_t, uint8_t *, size_t) = {strumok_apply, apply_with};
+static uint64_t (*const window[2])(uint64_t *, uint8_t *, size_t, size_t, size_t) = {strumok_window, window_with};
+
 static void test_names(void)
 {
     static const int numbers[] = {
@@ -95,6 +112,7 @@ static void test_names(void)
                && STRUMOK_POSITION == POSITION,
            "the names of the words");
     expect(STRUMOK_LIMIT == LIMIT, "the last position");
+    expect(STRUMOK_TABLES_WORDS == TABLES, "the number of words of the tables");
 }
 
 /* One word by each call: one step, and Z over its eight bytes, least significant first. */
@@ -331,17 +349,19 @@ static void expect_state(const struct state *s, const struct state *old, uint64_
 static void test_apply_number(uint64_t want, uint64_t size, uint64_t position, size_t source_len, size_t target_len)
 {
     const struct state old = example(size, position);
-    struct state s = old;
+    const size_t written = want == 0 ? source_len : 0;
     uint8_t source[LENGTH], target[LENGTH], held[LENGTH];
 
     fill(source, LENGTH);
-    fill(target, LENGTH);
     fill(held, LENGTH);
-    expect_number(strumok_apply(s.words, source, source_len, target, target_len), want, "apply");
-    expect_state(&s, &old, want, source_len);
-    expect(memcmp(source, held, LENGTH) == 0, "the source is only read");
-    const size_t written = want == 0 ? source_len : 0;
-    expect(memcmp(target + written, held + written, LENGTH - written) == 0, "the target keeps the bytes that are not written");
+    for (unsigned form = 0; form < 2; form++) {
+        struct state s = old;
+        fill(target, LENGTH);
+        expect_number(apply[form](s.words, source, source_len, target, target_len), want, form == 0 ? "apply" : "apply_with");
+        expect_state(&s, &old, want, source_len);
+        expect(memcmp(source, held, LENGTH) == 0, "the source is only read");
+        expect(memcmp(target + written, held + written, LENGTH - written) == 0, "the target keeps the bytes that are not written");
+    }
 }
 
 static void test_apply_numbers(void)
@@ -366,16 +386,18 @@ static void test_apply_numbers(void)
 static void test_window_number(uint64_t want, uint64_t size, uint64_t position, size_t length, size_t start, size_t count)
 {
     const struct state old = example(size, position);
-    struct state s = old;
+    const size_t begin = want == 0 ? start : 0, end = want == 0 ? start + count : 0;
     uint8_t buffer[LENGTH], held[LENGTH];
 
-    fill(buffer, LENGTH);
     fill(held, LENGTH);
-    expect_number(strumok_window(s.words, buffer, length, start, count), want, "window");
-    expect_state(&s, &old, want, count);
-    const size_t begin = want == 0 ? start : 0, end = want == 0 ? start + count : 0;
-    expect(memcmp(buffer, held, begin) == 0 && memcmp(buffer + end, held + end, LENGTH - end) == 0,
-           "the bytes outside the window are kept");
+    for (unsigned form = 0; form < 2; form++) {
+        struct state s = old;
+        fill(buffer, LENGTH);
+        expect_number(window[form](s.words, buffer, length, start, count), want, form == 0 ? "window" : "window_with");
+        expect_state(&s, &old, want, count);
+        expect(memcmp(buffer, held, begin) == 0 && memcmp(buffer + end, held + end, LENGTH - end) == 0,
+               "the bytes outside the window are kept");
+    }
 }
 
 static void test_window_numbers(void)
@@ -397,6 +419,87 @@ static void test_window_numbers(void)
     test_window_number(6, 256, LIMIT, LENGTH, SIZE_MAX, SIZE_MAX);
     test_window_number(7, 256, LIMIT, LENGTH, 0, 1);
     test_window_number(7, 512, LIMIT - 1, LENGTH, 0, 2);
+}
+
+/* Whatever stood there before, the same 2,560 words are written, and none before or behind them. They are the tables of later tests. */
+static void test_tables(void)
+{
+    enum { GUARDS = 8, ALL = TABLES + 2 * GUARDS };
+    static uint64_t words[2][ALL];
+
+    memset(words[1], 0xFF, sizeof words[1]);
+    for (unsigned i = 0; i < 2; i++) {
+        strumok_tables(words[i] + GUARDS);
+        for (unsigned j = 0; j < GUARDS; j++)
+            expect(words[i][j] == (i == 0 ? 0 : ONES) && words[i][ALL - 1 - j] == words[i][j], "the words around the tables are kept");
+    }
+    expect(memcmp(words[0] + GUARDS, words[1] + GUARDS, sizeof tables) == 0, "every word of the tables is written, twice the same");
+    memcpy(tables, words[0] + GUARDS, sizeof tables);
+}
+
+/* A portion and a window of one length from one state, by both forms: the same numbers, states and bytes. */
+static void test_both_forms(const struct state *old, size_t length)
+{
+    static uint8_t source[LONG], targets[2][LONG], buffers[2][LONG];
+    const uint64_t want = length <= LIMIT - old->words[POSITION] ? 0 : 7;
+    const size_t start = length % 11;
+    struct state applied[2] = {*old, *old}, worked[2] = {*old, *old};
+
+    fill(source, LONG);
+    for (unsigned form = 0; form < 2; form++) {
+        memset(targets[form], 0xA5, LONG);
+        fill(buffers[form], LONG);
+        expect_number(apply[form](applied[form].words, source, length, targets[form], LONG), want, "a portion by either form");
+        expect_number(window[form](worked[form].words, buffers[form], LONG, start, length), want, "a window by either form");
+    }
+    expect(same(&applied[0], &applied[1]) && same(&worked[0], &worked[1]), "by held tables: the same states");
+    expect(memcmp(targets[0], targets[1], LONG) == 0 && memcmp(buffers[0], buffers[1], LONG) == 0, "by held tables: the same bytes");
+}
+
+static void test_held_tables(size_t key_len)
+{
+    static const size_t lengths[] = {511, 512, 513, 1000, 1024, 4095, 4096, 4097, 16384, LONG - 10};
+    static const int64_t positions[] = {0, 1, 4, 7, 8, 13, 1000, 65535, STRUMOK_LIMIT - 1024, STRUMOK_LIMIT - 63, STRUMOK_LIMIT};
+    uint64_t held[TABLES];
+    uint8_t key[LONGEST], iv[IV];
+    struct state opened;
+
+    memcpy(held, tables, sizeof tables);
+    fill(key, LONGEST);
+    fill(iv, IV);
+    expect_number(strumok_open(key, key_len, iv, IV, opened.words), 0, "the opening before held tables");
+    for (unsigned i = 0; i < sizeof positions / sizeof positions[0]; i++) {
+        struct state s = opened;
+        expect_number(strumok_move(s.words, positions[i]), 0, "the move before held tables");
+        for (size_t length = 0; length <= 260; length++)
+            test_both_forms(&s, length);
+        for (unsigned j = 0; j < sizeof lengths / sizeof lengths[0]; j++)
+            test_both_forms(&s, lengths[j]);
+    }
+    expect(memcmp(held, tables, sizeof tables) == 0, "the tables are only read");
+}
+
+/* With one word of the first, the ninth or the tenth table altered the calls are accepted, and the keystream is another. */
+static void test_altered_tables(void)
+{
+    static const unsigned altered[] = {0, 255, 8 * 256 + 90, 9 * 256 + 165};
+    static const uint8_t zeros[LONG];
+    static uint8_t want[LONG], target[LONG], buffer[LONG];
+    const struct state old = example(512, 5);
+    struct state end = old;
+
+    expect_number(apply_with(end.words, zeros, LONG, want, LONG), 0, "a portion by the tables as written");
+    for (unsigned i = 0; i < sizeof altered / sizeof altered[0]; i++) {
+        struct state applied = old, worked = old;
+        memset(buffer, 0, LONG);
+        tables[altered[i]] ^= 1;
+        expect_number(apply_with(applied.words, zeros, LONG, target, LONG), 0, "a portion by altered tables");
+        expect_number(window_with(worked.words, buffer, LONG, 0, LONG), 0, "a window by altered tables");
+        tables[altered[i]] ^= 1;
+        expect(memcmp(want, target, LONG) != 0 && !same(&applied, &end), "a word of the tables alters the keystream");
+        expect(memcmp(buffer, target, LONG) == 0 && same(&applied, &worked), "of a portion and of a window alike");
+        expect_state(&worked, &old, 0, LONG);
+    }
 }
 
 static void test_move_number(uint64_t want, uint64_t size, uint64_t position, int64_t distance)
@@ -518,6 +621,10 @@ int main(int argc, char **argv)
     test_row_11();
     test_vectors(argv[1]);
     test_portions();
+    test_tables();
+    test_held_tables(32);
+    test_held_tables(64);
+    test_altered_tables();
     test_open_numbers();
     test_apply_numbers();
     test_window_numbers();
