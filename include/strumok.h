@@ -11,15 +11,16 @@
  * Lengths, distances and states need not be looked at beforehand: each value has its answer.
  *
  * All that is proved rests on what C does not check:
- *   - a state is twenty words, aligned as a uint64_t is;
+ *   - a state is twenty words, and tables are 2,560, aligned as a uint64_t is;
  *   - no pointer is null, also where its length is 0, and each buffer has the bytes that its length says;
- *   - the state and the buffers of one call do not overlap (to work in place there is strumok_window);
+ *   - the state, the tables and the buffers of one call do not overlap (to work in place there is strumok_window);
  *   - nothing else touches them during the call.
  *
  * A state is as secret as its key: strumok_check turns the one into the other. So is a key target. Secrecy of timing is not claimed: tables
  * are indexed by bytes that are secret. No call wipes what it leaves on the stack.
  *
- * Stack, measured on x86-64: 22 KiB for each call, most of it for tables, and 41 KiB for strumok_move where the distance is negative.
+ * Stack, measured on x86-64: 22 KiB for each call, most of it for tables, 42 KiB for strumok_move where the distance is negative, and 2 KiB for
+ * the two calls with tables that the caller holds.
  */
 #ifndef STRUMOK_H
 #define STRUMOK_H
