@@ -212,9 +212,12 @@ fn apply_words(s: State, tables: &[[u64; 256]; 10], buffer: &mut [u8]) -> State
 
 // Bytes from byte p of the word on that end with it or before. A word used up is stepped over; the rest of another is left to the next portion.
 fn apply_edge(s: State, p: u64, tables: &[[u64; 256]; 10], buffer: &mut [u8]) -> State
-    requires { ⌜ p + length (now buffer) ≤ 8 ⌝ }
+    requires { ⌜ (p < 8) × (p + length (now buffer) ≤ 8) ⌝ }
     ensures { λ r. ⌜ Applied (nextIn (now (tables .entry)) Ordinary) p s (now (buffer .entry)) r (now (buffer .exit)) ⌝ }
 {
+    if buffer.len() == 0 {
+        return s;
+    }
     let n = buffer.len() as u64;
     let stepped = step(Kind::Ordinary, s, tables);
     mask_bytes(stepped.word, p, buffer);

@@ -10,7 +10,7 @@ use Rattle.keystream.proofs.apply_aligned.Tie as tie
 
 -- less than a word is left
 apply-edge-requires : tie.Need-apply-edge-requires
-apply-edge-requires c κs = simp (length-take, length-drop) (omega arith)
+apply-edge-requires c κs = (omega arith, simp (length-take, length-drop) (omega arith))
 
 same-length : tie.Need-same-length
 same-length c =

@@ -1,4 +1,4 @@
--- `generator::steps_by_one` meets its contract: after i turns, i steps are taken.
+-- `generator::walks::steps_by_one` meets its contract: after i turns, i steps are taken.
 -- Assumes nothing.
 use Prim.Native.Nat.{_≤_, _-_}
 use mathlib.Core.Path.{_≡_, refl}
@@ -7,8 +7,8 @@ use borrow.Author.Needs.{needs}
 use Rattle.generator.specs.Registers.{walked}
 use Rattle.generator.specs.Functions.{nextIn}
 use Rattle.generator.proofs.Iterate.{walked-on, stepped-state}
-use Rattle.generator.proofs.steps_by_one.Statement.{statement}
-use Rattle.generator.proofs.steps_by_one.Tie as tie
+use Rattle.generator.proofs.walks.steps_by_one.Statement.{statement}
+use Rattle.generator.proofs.walks.steps_by_one.Tie as tie
 
 abbrev Inv-loop : tie.InvT-loop
 Inv-loop kind n tables t₀ i₀ t i = (t ≡ walked (nextIn tables kind) i t₀) × (i ≤ n)

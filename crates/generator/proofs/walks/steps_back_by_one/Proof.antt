@@ -1,4 +1,4 @@
--- `generator::steps_back_by_one` meets its contract: after i turns, i steps are undone.
+-- `generator::walks::steps_back_by_one` meets its contract: after i turns, i steps are undone.
 -- Assumes nothing.
 use Prim.Native.Nat.{_≤_, _-_}
 use mathlib.Core.Path.{_≡_, refl}
@@ -7,8 +7,8 @@ use borrow.Author.Needs.{needs}
 use Rattle.generator.specs.Registers.{walked}
 use Rattle.generator.specs.Functions.{previousBy}
 use Rattle.generator.proofs.Iterate.{walked-on}
-use Rattle.generator.proofs.steps_back_by_one.Statement.{statement}
-use Rattle.generator.proofs.steps_back_by_one.Tie as tie
+use Rattle.generator.proofs.walks.steps_back_by_one.Statement.{statement}
+use Rattle.generator.proofs.walks.steps_back_by_one.Tie as tie
 
 abbrev Inv-loop : tie.InvT-loop
 Inv-loop kind n columns bytes inverse t₀ i₀ t i = (t ≡ walked (previousBy columns bytes inverse kind) i t₀) × (i ≤ n)

@@ -1,11 +1,11 @@
--- `generator::eight_steps` meets its contract: step after step.
+-- `generator::walks::eight_steps` meets its contract: step after step.
 -- Assumes nothing.
 use borrow.Author.Needs.{needs}
 use Rattle.generator.specs.declared.Kind.the-variants.{Ordinary}
 use Rattle.generator.specs.Functions.{nextIn}
 use Rattle.generator.proofs.Iterate.{walked-eight, stepped-state}
-use Rattle.generator.proofs.eight_steps.Statement.{statement}
-use Rattle.generator.proofs.eight_steps.Tie as tie
+use Rattle.generator.proofs.walks.eight_steps.Statement.{statement}
+use Rattle.generator.proofs.walks.eight_steps.Tie as tie
 
 returns : tie.Need-returns
 returns c =

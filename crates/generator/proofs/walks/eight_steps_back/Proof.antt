@@ -1,11 +1,11 @@
--- `generator::eight_steps_back` meets its contract: step after step.
+-- `generator::walks::eight_steps_back` meets its contract: step after step.
 -- Assumes nothing.
 use borrow.Author.Needs.{needs}
 use Rattle.generator.specs.declared.Kind.the-variants.{Ordinary}
 use Rattle.generator.specs.Functions.{previousBy}
 use Rattle.generator.proofs.Iterate.{walked-eight}
-use Rattle.generator.proofs.eight_steps_back.Statement.{statement}
-use Rattle.generator.proofs.eight_steps_back.Tie as tie
+use Rattle.generator.proofs.walks.eight_steps_back.Statement.{statement}
+use Rattle.generator.proofs.walks.eight_steps_back.Tie as tie
 
 returns : tie.Need-returns
 returns c =

@@ -1,4 +1,4 @@
--- `generator::steps_back_by_eight` meets its contract: after i turns, 8 * i steps are undone.
+-- `generator::walks::steps_back_by_eight` meets its contract: after i turns, 8 * i steps are undone.
 -- Assumes nothing.
 use Prim.Native.Nat.{_+_, _*_, _≤_, _-_}
 use mathlib.Core.Path.{_≡_, refl}
@@ -8,8 +8,8 @@ use Rattle.generator.specs.declared.Kind.the-variants.{Ordinary}
 use Rattle.generator.specs.Registers.{walked}
 use Rattle.generator.specs.Functions.{previousBy}
 use Rattle.generator.proofs.Iterate.{walked-on}
-use Rattle.generator.proofs.steps_back_by_eight.Statement.{statement}
-use Rattle.generator.proofs.steps_back_by_eight.Tie as tie
+use Rattle.generator.proofs.walks.steps_back_by_eight.Statement.{statement}
+use Rattle.generator.proofs.walks.steps_back_by_eight.Tie as tie
 
 abbrev Inv-loop : tie.InvT-loop
 Inv-loop n columns bytes inverse t₀ i₀ t i = (t ≡ walked (previousBy columns bytes inverse Ordinary) (8 * i) t₀) × (i ≤ n)

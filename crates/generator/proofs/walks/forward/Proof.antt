@@ -1,4 +1,4 @@
--- `generator::forward` meets its contract: ordinary steps by eight and then one by one, steps of initialisation one by one.
+-- `generator::walks::forward` meets its contract: ordinary steps by eight and then one by one, steps of initialisation one by one.
 -- Assumes nothing.
 use Prim.Native.Nat.{_*_, _/_, _%_}
 use native.Mathlib.Omega.{arith}
@@ -6,8 +6,8 @@ use borrow.Author.Needs.{needs}
 use Rattle.generator.specs.declared.Kind.the-variants.{Ordinary}
 use Rattle.generator.specs.Functions.{nextIn}
 use Rattle.generator.proofs.Iterate.{walked-on}
-use Rattle.generator.proofs.forward.Statement.{statement}
-use Rattle.generator.proofs.forward.Tie as tie
+use Rattle.generator.proofs.walks.forward.Statement.{statement}
+use Rattle.generator.proofs.walks.forward.Tie as tie
 
 returns : tie.Need-returns
 returns c =
