@@ -30,7 +30,7 @@ stepBy tables alpha alphaInverse kind s =
 abbrev pub stepBackBy : (columns bytes : List (List ℕ)) (alphaInverse : List ℕ) → Kind → State → State
 stepBackBy columns bytes alphaInverse kind s = withRegisters s (previousBy columns bytes alphaInverse kind (registersOf s))
 
--- ---- forward by ten tables in one: the eight of T, then that of α, then that of its inverse
+-- ---- forward by ten tables in one: the eight of T, then that of α, then that of its inverse; law `next-in-tables`
 
 -- the ten tables of the cipher
 abbrev pub stepTables : List (List ℕ)

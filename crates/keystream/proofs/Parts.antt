@@ -55,6 +55,20 @@ module _ (f : Registers → Registers) (p : ℕ) (s : State) (b : List ℕ) wher
             bytes = rw (d .bytes) (partly-put g p b i (d .within) (e - i) (omega arith) ey ∙ ap (partly g p b) sum);
           }
 
+-- ---- the first four words of a straight line
+
+module _ (f : Registers → Registers) (s : State) (b : List ℕ) (room : 32 ≤ length b) where
+  pub four-words : {t u v w : State} {xs ys zs ws : List ℕ} → Applied f 0 s (take 8 (drop 0 b)) t xs
+      → Applied f 0 t (take 8 (drop 8 (putMid 0 8 b xs))) u ys
+      → Applied f 0 u (take 8 (drop 16 (putMid 8 8 (putMid 0 8 b xs) ys))) v zs
+      → Applied f 0 v (take 8 (drop 24 (putMid 16 8 (putMid 8 8 (putMid 0 8 b xs) ys) zs))) w ws
+      → Done f 0 s b 32 w (putMid 24 8 (putMid 16 8 (putMid 8 8 (putMid 0 8 b xs) ys) zs) ws)
+  four-words a1 a2 a3 a4 =
+      let d1 = done-part f 0 s b (done-none f 0 s b (omega arith)) 8 (omega arith) (omega arith) refl a1 in
+      let d2 = done-part f 0 s b d1 16 (omega arith) (omega arith) refl a2 in
+      let d3 = done-part f 0 s b d2 24 (omega arith) (omega arith) refl a3 in
+      done-part f 0 s b d3 32 (omega arith) (omega arith) refl a4
+
 -- ---- within one word
 
 -- a step's word, over bytes of it: up to the word's end the state is the one after the step, before that the one before it

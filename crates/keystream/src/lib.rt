@@ -86,24 +86,15 @@ fn apply_one(s: State, tables: &[[u64; 256]; 10], part: &mut [u8]) -> State
     stepped.state
 }
 
-// Three words.
-fn apply_three(s: State, tables: &[[u64; 256]; 10], part: &mut [u8]) -> State
-    requires { ⌜ length (now part) ≡ 24 ⌝ }
+// Four words.
+fn apply_four(s: State, tables: &[[u64; 256]; 10], part: &mut [u8]) -> State
+    requires { ⌜ length (now part) ≡ 32 ⌝ }
     ensures { λ r. ⌜ Applied (nextIn (now (tables .entry)) Ordinary) 0 s (now (part .entry)) r (now (part .exit)) ⌝ }
 {
     let a = apply_one(s, tables, &mut part[0..8]);
     let b = apply_one(a, tables, &mut part[8..16]);
-    apply_one(b, tables, &mut part[16..24])
-}
-
-// Five words.
-fn apply_five(s: State, tables: &[[u64; 256]; 10], part: &mut [u8]) -> State
-    requires { ⌜ length (now part) ≡ 40 ⌝ }
-    ensures { λ r. ⌜ Applied (nextIn (now (tables .entry)) Ordinary) 0 s (now (part .entry)) r (now (part .exit)) ⌝ }
-{
-    let a = apply_one(s, tables, &mut part[0..8]);
-    let b = apply_one(a, tables, &mut part[8..16]);
-    apply_three(b, tables, &mut part[16..40])
+    let c = apply_one(b, tables, &mut part[16..24]);
+    apply_one(c, tables, &mut part[24..32])
 }
 
 // Eight words.
@@ -114,7 +105,8 @@ fn apply_eight(s: State, tables: &[[u64; 256]; 10], part: &mut [u8]) -> State
     let a = apply_one(s, tables, &mut part[0..8]);
     let b = apply_one(a, tables, &mut part[8..16]);
     let c = apply_one(b, tables, &mut part[16..24]);
-    apply_five(c, tables, &mut part[24..64])
+    let d = apply_one(c, tables, &mut part[24..32]);
+    apply_four(d, tables, &mut part[32..64])
 }
 
 // The same for sixteen words, which a long portion goes by.

@@ -1,4 +1,4 @@
-// The cipher's calls for C: each over a state of twenty words, with the number of its answer returned.
+// The cipher's calls for C: each over a state of twenty words, with the number of its answer returned; and the tables that a caller may hold.
 ghost use mathlib.Core.Path.{_≡_};
 ghost use Rattle.strumok.specs.Opening.{opened};
 ghost use Rattle.strumok.specs.Moving.{moved};

@@ -1,9 +1,8 @@
--- `keystream::apply_last_four` meets its contract: word by word.
+-- `keystream::apply_last_four` meets its contract: four words.
 -- Assumes nothing.
-use mathlib.Core.Path.{refl}
 use native.Mathlib.Omega.{arith}
 use borrow.Author.Needs.{needs}
-use Rattle.keystream.proofs.Parts.{done-none, done-part, done-all, done-length}
+use Rattle.keystream.proofs.Parts.{four-words, done-all, done-length}
 use Rattle.keystream.proofs.apply_last_four.Statement.{statement}
 use Rattle.keystream.proofs.apply_last_four.Tie as tie
 
@@ -14,11 +13,7 @@ returns c =
     let w2 = w3 .before .before .before .before in
     let w1 = w2 .before .before .before .before in
     let start = w1 .before .before .before in
-    let d0 = done-none _ 0 (start .args .s) (start .args .part .now) (omega arith) in
-    let d1 = done-part _ 0 _ _ d0 8 (omega arith) (omega (arith, start .pre)) refl (w1 .apply-one .ensures) in
-    let d2 = done-part _ 0 _ _ d1 16 (omega arith) (omega (arith, start .pre)) refl (w2 .apply-one2 .ensures) in
-    let d3 = done-part _ 0 _ _ d2 24 (omega arith) (omega (arith, start .pre)) refl (w3 .apply-one3 .ensures) in
-    let d4 = done-part _ 0 _ _ d3 32 (omega arith) (omega (arith, start .pre)) refl (w4 .apply-one4 .ensures) in
+    let d4 = four-words _ (start .args .s) (start .args .part .now) (omega (arith, start .pre)) (w1 .apply-one .ensures) (w2 .apply-one2 .ensures) (w3 .apply-one3 .ensures) (w4 .apply-one4 .ensures) in
     done-all _ 0 _ _ d4 (omega (arith, done-length _ 0 _ _ d4, start .pre))
 
 pub apply-last-four-spec : {M : Type 1} → statement M

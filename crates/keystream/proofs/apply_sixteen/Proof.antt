@@ -1,9 +1,9 @@
--- `keystream::apply_sixteen` meets its contract: words, then the rest.
+-- `keystream::apply_sixteen` meets its contract: four words, then the rest.
 -- Assumes nothing.
 use mathlib.Core.Path.{refl}
 use native.Mathlib.Omega.{arith}
 use borrow.Author.Needs.{needs}
-use Rattle.keystream.proofs.Parts.{done-none, done-part, done-all, done-length}
+use Rattle.keystream.proofs.Parts.{four-words, done-part, done-all, done-length}
 use Rattle.keystream.proofs.apply_sixteen.Statement.{statement}
 use Rattle.keystream.proofs.apply_sixteen.Tie as tie
 
@@ -24,11 +24,7 @@ returns c =
     let w2 = w3 .before .before .before .before in
     let w1 = w2 .before .before .before .before in
     let start = w1 .before .before .before in
-    let d0 = done-none _ 0 (start .args .s) (start .args .part .now) (omega arith) in
-    let d1 = done-part _ 0 _ _ d0 8 (omega arith) (omega (arith, start .pre)) refl (w1 .apply-one .ensures) in
-    let d2 = done-part _ 0 _ _ d1 16 (omega arith) (omega (arith, start .pre)) refl (w2 .apply-one2 .ensures) in
-    let d3 = done-part _ 0 _ _ d2 24 (omega arith) (omega (arith, start .pre)) refl (w3 .apply-one3 .ensures) in
-    let d4 = done-part _ 0 _ _ d3 32 (omega arith) (omega (arith, start .pre)) refl (w4 .apply-one4 .ensures) in
+    let d4 = four-words _ (start .args .s) (start .args .part .now) (omega (arith, start .pre)) (w1 .apply-one .ensures) (w2 .apply-one2 .ensures) (w3 .apply-one3 .ensures) (w4 .apply-one4 .ensures) in
     let d5 = done-part _ 0 _ _ d4 128 (omega arith) (omega (arith, start .pre)) refl (w5 .apply-last-twelve .ensures) in
     done-all _ 0 _ _ d5 (omega (arith, done-length _ 0 _ _ d5, start .pre))
 
