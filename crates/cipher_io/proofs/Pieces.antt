@@ -1,5 +1,4 @@
 -- Counts of bytes at the front of a buffer; what a piece does to the position; the measure of the loop over pieces.
--- Assumes nothing.
 use mathlib.Core.Path.{_≡_, refl, sym, subst}
 use mathlib.Core.Bool.{Bool, true, false, true≢false, cond}
 use mathlib.Core.List.{List, _++_}

@@ -1,5 +1,4 @@
 -- Document 01 on the cipher program: "one byte giving the key length, the key, 32 IV bytes, data to the end". The input is a list of bytes.
--- Assumes nothing.
 use mathlib.Core.Bool.{cond}
 use mathlib.Core.List.{List, [], _∷_, _++_}
 use Prim.Native.Nat.{ℕ, _+_}

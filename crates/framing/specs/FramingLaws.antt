@@ -1,5 +1,4 @@
 -- What is proved of the cipher program's input: proofs/FramingLaws.antt has `framing-laws : FramingLaws`.
--- Assumes nothing.
 use mathlib.Core.Path.{_≡_}
 use mathlib.Core.Logic.{_⊎_}
 use mathlib.Core.List.{List, [], _∷_, _++_}

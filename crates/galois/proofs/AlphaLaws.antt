@@ -1,5 +1,4 @@
 -- The laws of α that specs/AlphaLaws.antt states.
--- Assumes nothing.
 use mathlib.Core.Path.{refl, ap}
 use Prim.Native.Nat.{ℕ, _*_, _/_, _%_, _^_, _<_}
 use native.Mathlib.Nat.{mod-lt, lt-of-le-of-lt}

@@ -1,5 +1,4 @@
 -- Words and their bytes: one is known by the other, and xor goes byte by byte. Tables by rule: how long they are, and their entries.
--- Assumes nothing.
 use mathlib.Core.Path.{_≡_, refl, sym, ap, ap₂, _∙_, subst, fun-ext}
 use Prim.Native.Nat.{ℕ, zero, suc, _+_, _*_, _/_, _%_, _^_, _≤_, _<_}
 use native.Mathlib.Nat.{mod-lt, zero-lt-suc, div-one, le-of-suc-le-suc, not-suc-le-zero, div-eq-of-lt, lt-of-lt-of-le}

@@ -1,5 +1,4 @@
 -- The product of two bytes: a byte, xor-linear in its second operand, and what the loop of `product` keeps.
--- Assumes nothing.
 use mathlib.Core.Path.{_≡_, refl, ap, _∙_}
 use Prim.Native.Nat.{ℕ, zero, suc, _-_, _*_, _/_, _%_, _<_, _≤_}
 use native.Mathlib.Nat.{mod-lt, zero-lt-suc, not-suc-le-zero, zero-mul, one-mul}

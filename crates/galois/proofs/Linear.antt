@@ -1,5 +1,4 @@
 -- Maps on numbers that keep xor. Such a map is known by its values at the powers of two.
--- Assumes nothing.
 use mathlib.Core.Path.{_≡_, sym, ap, ap₂, _∙_, subst}
 use Prim.Native.Nat.{ℕ, zero, suc, _*_, _/_, _%_, _^_, _<_}
 use native.Mathlib.Nat.{mod-lt, zero-mul, one-mul, pow-succ', div-lt-iff-lt-mul}

@@ -1,5 +1,4 @@
 -- A table of a xor-linear map at the numbers below 2 ^ n, worked out from its values at the n powers of two alone.
--- Assumes nothing.
 use mathlib.Core.Path.{_≡_, refl, sym, ap, ap₂, _∙_, fun-ext}
 use mathlib.Core.List.{List, [], _∷_, _++_, map}
 use Prim.Native.Nat.{ℕ, zero, suc, _+_, _^_, _<_}

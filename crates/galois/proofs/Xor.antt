@@ -1,6 +1,5 @@
 -- The laws of xor that the library lacks. It has `xor-comm`, `xor-self`, `xor-zero-l`, `xor-zero-r`, `xor-lt`, `xor-mod` (low bits)
 -- and `xor-shr` (shift right); proofs/Bytes.antt has xor byte by byte.
--- Assumes nothing.
 use mathlib.Core.Path.{_≡_, refl, sym, ap₂, _∙_}
 use Prim.Native.Nat.{ℕ, zero, suc, _*_, _/_, _%_, _^_, _<_}
 use native.Mathlib.Nat.{add-zero}

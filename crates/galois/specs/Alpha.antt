@@ -1,5 +1,4 @@
 -- "Words are elements of the extension by g(z)": the product of a word with α = z, and with α^-1.
--- Assumes nothing.
 use mathlib.Core.List.{List}
 use Prim.Native.Nat.{ℕ, _*_, _/_, _%_, _^_}
 use lib.Bits.{bitXor}

@@ -1,5 +1,4 @@
 -- What is proved of α: proofs/AlphaLaws.antt has `alpha-laws : AlphaLaws`.
--- Assumes nothing.
 use mathlib.Core.Path.{_≡_}
 use mathlib.Core.List.{[], _∷_}
 use Prim.Native.Nat.{ℕ}

@@ -1,5 +1,4 @@
 -- "Bytes are elements of the field of 256 elements with polynomial y^8+y^4+y^3+y^2+1 (11D hexadecimal); β is the element 02."
--- Assumes nothing.
 use Prim.Native.Nat.{ℕ, zero, suc, _*_, _/_, _%_}
 use lib.Bits.{bitXor}
 

@@ -1,6 +1,5 @@
 -- Bytes and words as numbers, tables as lists. A word is a number below 2 ^ 64, a byte one below 2 ^ 8.
 -- Document 01's ⊕, "bitwise xor", is the library's `bitXor`, which is also what the language's `^` means.
--- Assumes nothing.
 use mathlib.Core.Path.{_≡_}
 use mathlib.Core.List.{List, [], _∷_}
 use Prim.Native.Nat.{ℕ, zero, suc, _+_, _*_, _/_, _%_, _^_, _<_}

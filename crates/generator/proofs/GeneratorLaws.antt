@@ -1,5 +1,4 @@
 -- The laws of steps and walks that specs/GeneratorLaws.antt states.
--- Assumes nothing.
 use mathlib.Core.Path.{_≡_, refl, ap, fun-ext, _∙_}
 use mathlib.Core.List.{List}
 use Prim.Native.Nat.{ℕ}

@@ -1,5 +1,4 @@
 -- Walks of n steps: they compose, and where g undoes f the walks undo each other and are one-to-one.
--- Assumes nothing.
 use mathlib.Core.Path.{_≡_, refl, sym, ap, _∙_}
 use Prim.Native.Nat.{ℕ, zero, suc, _+_}
 use native.Mathlib.Nat.{add-zero, add-suc}

@@ -1,5 +1,4 @@
 -- What every state that a program holds has: sixteen cells and two registers that are words.
--- Assumes nothing.
 use mathlib.Core.Path.{sym, _∙_}
 use mathlib.Core.List.{List, [], _∷_, map}
 use Prim.Native.Nat.{ℕ, zero, suc, _^_, _<_}

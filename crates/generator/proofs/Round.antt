@@ -1,6 +1,5 @@
 -- A step back undoes a step, and a step undoes a step back: for both kinds, and for any maps in the place of T and the products with α
 -- and its inverse that undo each other on words.
--- Assumes nothing.
 use mathlib.Core.Path.{_≡_, refl, ap, _∙_}
 use mathlib.Core.List.{List, [], _∷_}
 use Prim.Native.Nat.{ℕ, suc, _+_, _^_, _<_}

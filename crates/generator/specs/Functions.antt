@@ -1,6 +1,5 @@
 -- What the functions over lent tables hand over: the steps of specs/Registers.antt with words looked up in those tables.
 -- Where the tables are those of T and α, these are the steps of the cipher: laws `next-by-tables` and `previous-by-tables` of specs/GeneratorLaws.antt.
--- Assumes nothing.
 use mathlib.Core.List.{List, [], _∷_, _++_}
 use Prim.Native.Nat.{ℕ}
 use lib.ListN.{getD}

@@ -1,6 +1,5 @@
 -- What is proved of steps and walks: proofs/GeneratorLaws.antt has `generator-laws : GeneratorLaws`.
 -- Each law is said once for both kinds of step, and of all registers: sixteen cells and two registers that hold any words.
--- Assumes nothing.
 use mathlib.Core.Path.{_≡_}
 use Prim.Native.Nat.{ℕ, _+_}
 use Rattle.galois.specs.Alpha.{alphaTable, alphaInverseTable}

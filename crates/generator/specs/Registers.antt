@@ -1,5 +1,4 @@
 -- Document 01, "Registers and steps": the registers of a state, the steps forward and back, walks of n steps, the keystream word.
--- Assumes nothing.
 use mathlib.Core.Path.{_≡_}
 use mathlib.Core.List.{List, [], _∷_, _++_}
 use Prim.Native.Nat.{ℕ, zero, suc, _+_, _-_, _%_, _^_, _<_}

@@ -1,5 +1,4 @@
 -- Eight bytes and a word: read one by one, set one by one, and a word of keystream over them.
--- Assumes nothing.
 use mathlib.Core.Path.{_≡_, refl, sym, ap, ap₂, _∙_}
 use mathlib.Core.List.{List, [], _∷_}
 use Prim.Native.Nat.{ℕ, _+_, _%_, _<_}

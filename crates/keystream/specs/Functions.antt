@@ -1,5 +1,4 @@
 -- What the functions over lent tables promise, with the step that the tables give as a parameter.
--- Assumes nothing.
 use mathlib.Core.Path.{_≡_}
 use mathlib.Core.List.{List}
 use Prim.Native.Nat.{ℕ, _+_, _/_}

@@ -1,5 +1,4 @@
 -- Document 01, "Positions, windows, moves": the bytes of the keystream, and the keystream applied to bytes.
--- Assumes nothing.
 use mathlib.Core.List.{List, [], _∷_}
 use Prim.Native.Nat.{ℕ, suc, _/_, _%_}
 use lib.Bits.{bitXor}

@@ -1,5 +1,4 @@
 -- Recovering undoes loading: a key word that stands in a table of rows is read back from the cells.
--- Assumes nothing.
 use mathlib.Core.Path.{_≡_, refl, sym, ap, _∙_}
 use mathlib.Core.Bool.{Bool, true, false, cond, _||_}
 use mathlib.Core.List.{List, [], _∷_, map, reverseAux}

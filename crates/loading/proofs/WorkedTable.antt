@@ -1,5 +1,4 @@
 -- The worked table, by computation.
--- Assumes nothing.
 use mathlib.Core.Path.{_≡_, refl, sym}
 use Rattle.galois.specs.Field.{gmul}
 use Rattle.galois.specs.Alpha.{scaled, alphaRow, alphaInverseRow, alphaTable, alphaInverseTable, alphaTimes, alphaInverseTimes}

@@ -1,5 +1,4 @@
 -- Document 01, "Loading": the words of a key and an IV, the sixteen cells loaded with them, and the registers of S_n.
--- Assumes nothing.
 use mathlib.Core.Path.{_≡_}
 use mathlib.Core.Logic.{_⊎_}
 use mathlib.Core.Bool.{cond}

@@ -1,5 +1,4 @@
 -- What is proved of the loading: proofs/LoadingLaws.antt has `loading-laws : LoadingLaws`.
--- Assumes nothing.
 use mathlib.Core.Path.{_≡_}
 use mathlib.Core.List.{List}
 use Prim.Native.Nat.{ℕ}

@@ -1,5 +1,4 @@
 -- Document 01, "Loading", the other way: the way back to the loaded registers, and the key that sixteen cells give under an IV.
--- Assumes nothing.
 use mathlib.Core.Bool.{cond}
 use mathlib.Core.List.{List, [], _∷_, reverse}
 use Prim.Native.Nat.{ℕ, _+_, _*_, _/_, _%_}

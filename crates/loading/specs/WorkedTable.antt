@@ -1,6 +1,5 @@
 -- Document 01, "Worked table (all proved)": the eleven rows, each the words computed and the words expected, and one claim over all rows.
 -- proofs/WorkedTable.antt has `worked-table : WorkedTable`.
--- Assumes nothing.
 use mathlib.Core.Path.{_≡_}
 use mathlib.Core.List.{List, [], _∷_, _++_, map}
 use Prim.Native.Nat.{ℕ}

@@ -1,5 +1,4 @@
 -- The laws of portions and windows over lent tables that specs/AnyStepLaws.antt states.
--- Assumes nothing.
 use mathlib.Core.Path.{_≡_, ap, _∙_}
 use mathlib.Core.List.{List, _++_}
 use Prim.Native.Nat.{ℕ, _+_}

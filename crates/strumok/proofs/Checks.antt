@@ -1,5 +1,4 @@
 -- The tests of checking, the comparison of registers, and what the code of checking makes, equated with the definitions.
--- Assumes nothing.
 use mathlib.Core.Path.{_≡_, refl, sym, ap, ap₂, _∙_}
 use mathlib.Core.Logic.{_⊎_}
 use mathlib.Core.Bool.{Bool, true, false, true≢false, cond, not, _&&_}

@@ -1,5 +1,4 @@
 -- The demands that specs/Demands.antt states.
--- Assumes nothing.
 use Prim.Native.Nat.{_+_}
 use lib.IntN.{pos}
 use lib.ListN.{length}

@@ -1,5 +1,4 @@
 -- Lists of tests that compute whether the lines of document 01's table apply: what they return, and the answer of a call.
--- Assumes nothing.
 use mathlib.Core.Path.{_≡_, refl, sym, _∙_, subst}
 use mathlib.Core.Logic.{_⊎_, inl, inr}
 use mathlib.Core.Bool.{Bool, true, false, true≢false, cond, not, _||_}

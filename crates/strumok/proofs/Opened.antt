@@ -1,5 +1,4 @@
 -- What an accepted opening tells, and what the code of opening makes, equated with the definition.
--- Assumes nothing.
 use mathlib.Core.Path.{_≡_, _∙_}
 use mathlib.Core.Logic.{_⊎_, inl, inr}
 use mathlib.Core.List.{List, [], _∷_}

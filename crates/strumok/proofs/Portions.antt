@@ -1,5 +1,4 @@
 -- Portions and windows: the number that each returns, and what the code of both makes, equated with the definitions.
--- Assumes nothing.
 use mathlib.Core.Path.{_≡_, refl, ap, ap₂, _∙_}
 use mathlib.Core.Bool.{Bool, true, false}
 use mathlib.Core.List.{List, [], _∷_, _++_}

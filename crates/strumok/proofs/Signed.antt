@@ -1,5 +1,4 @@
 -- A signed count of 64 bits as a direction and a number: what the code of `span_of` needs of each sign.
--- Assumes nothing.
 use mathlib.Core.Path.{_≡_, refl, sym, ap, _∙_}
 use mathlib.Core.Bool.{true, false, true≢false}
 use Prim.Native.Nat.{ℕ, suc, _-_}

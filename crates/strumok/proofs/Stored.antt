@@ -1,5 +1,4 @@
 -- What the check of a stored state answers: whether a key leads to it, and which.
--- Assumes nothing.
 use mathlib.Core.Path.{_≡_, refl, sym, ap, ap₂, _∙_}
 use mathlib.Core.Logic.{_⊎_}
 use mathlib.Core.Bool.{Bool, true, false, true≢false, cond}

@@ -1,5 +1,4 @@
 -- Lists of tests: what is returned, and the answer of a call.
--- Assumes nothing.
 use mathlib.Core.Path.{_≡_, refl, sym}
 use mathlib.Core.Logic.{_⊎_, inl, inr}
 use mathlib.Core.Bool.{Bool, true, false, true≢false, cond, not, _||_}

@@ -1,5 +1,4 @@
 -- Walks from word to word: each ends where the steps from one start lead, so they compose in any direction.
--- Assumes nothing.
 use mathlib.Core.Path.{_≡_, refl, sym, ap, _∙_}
 use mathlib.Core.Bool.{Bool, true, false}
 use Prim.Native.Nat.{ℕ, _+_, _-_, _≤_}

@@ -1,6 +1,5 @@
 -- Portions and windows with any step in the place of the cipher's: what the calls over lent tables answer. With the cipher's own step these
 -- are the definitions of specs/Applying.antt: specs/AnyStepLaws.antt.
--- Assumes nothing.
 use mathlib.Core.List.{List, _++_}
 use Prim.Native.Nat.{ℕ, _+_, _/_, _%_}
 use lib.ListN.{length, take, drop}

@@ -1,6 +1,5 @@
 -- What is proved of portions and windows over lent tables: proofs/AnyStepLaws.antt has `any-step-laws : AnyStepLaws`.
 -- With the ten tables of the cipher lent, each call answers as the call of specs/Applying.antt does, whatever the state and the buffers hold.
--- Assumes nothing.
 use mathlib.Core.Path.{_≡_}
 use mathlib.Core.List.{List}
 use Prim.Native.Nat.{ℕ}

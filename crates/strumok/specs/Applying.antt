@@ -1,5 +1,4 @@
 -- Document 01, "Positions, windows, moves": the keystream from a source to a target, and over a window of one buffer.
--- Assumes nothing.
 use mathlib.Core.List.{List, [], _∷_, _++_}
 use Prim.Native.Nat.{ℕ, _+_, _/_}
 use lib.IntN.{pos}

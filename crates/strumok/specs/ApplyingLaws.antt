@@ -1,6 +1,5 @@
 -- What is proved of portions and windows: proofs/ApplyingLaws.antt has `applying-laws : ApplyingLaws`.
 -- States hold any registers.
--- Assumes nothing.
 use mathlib.Core.Path.{_≡_}
 use mathlib.Core.List.{List, [], _++_}
 use Prim.Native.Nat.{ℕ, _+_, _≤_}

@@ -1,5 +1,4 @@
 -- Document 01, "Positions, windows, moves", its last paragraph: checking a stored state against an IV.
--- Assumes nothing.
 use mathlib.Core.Bool.{Bool, true, false, not, _&&_}
 use mathlib.Core.List.{List, [], _∷_, _++_}
 use Prim.Native.Nat.{ℕ, _/_}

@@ -1,6 +1,5 @@
 -- The demands, as statements. Their proofs are proofs/Demands.antt: `refusals : Refusals`, `keystream : Keystream` and
 -- `stored-states : StoredStates`.
--- Assumes nothing.
 use mathlib.Core.Path.{_≡_}
 use mathlib.Core.Logic.{_⊎_}
 use mathlib.Core.List.{List, [], _∷_, _++_}

@@ -1,5 +1,4 @@
 -- What an inner function of the code hands over.
--- Assumes nothing.
 use mathlib.Core.Bool.{true, false}
 use lib.IntN.{ℤ, pos, negsuc}
 use Rattle.strumok.specs.declared.moving.Span.{Span}

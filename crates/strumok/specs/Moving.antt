@@ -1,5 +1,4 @@
 -- Document 01, "Positions, windows, moves": moving a state.
--- Assumes nothing.
 use mathlib.Core.List.{List, [], _∷_, _++_}
 use Prim.Native.Nat.{ℕ, _-_, _/_}
 use lib.IntN.{ℤ, pos, natAbs, _+ℤ_}

@@ -1,6 +1,5 @@
 -- What is proved of moves: proofs/MovingLaws.antt has `moving-laws : MovingLaws`.
 -- States hold any registers: sixteen cells and two registers that are words, nothing else asked.
--- Assumes nothing.
 use mathlib.Core.Path.{_≡_}
 use mathlib.Core.List.{List}
 use Prim.Native.Nat.{ℕ, _/_}

@@ -1,5 +1,4 @@
 -- Document 01: opening a state from key and IV, and which key leads to a state.
--- Assumes nothing.
 use mathlib.Core.Path.{_≡_}
 use mathlib.Core.List.{List, [], _∷_}
 use Prim.Native.Nat.{ℕ, _/_}

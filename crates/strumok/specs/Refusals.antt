@@ -1,5 +1,4 @@
 -- Document 01, the table of returned numbers: each number, the test that it stands for, and which one a call returns.
--- Assumes nothing.
 use mathlib.Core.Path.{_≡_}
 use mathlib.Core.Bool.{Bool, cond, not, _||_}
 use mathlib.Core.List.{List, [], _∷_}

@@ -1,5 +1,4 @@
 -- What the two walks of this crate share: a state's machine value, the clauses of a contract as facts, and what parameters own.
--- Assumes nothing.
 use mathlib.Core.Path.{refl}
 use Prim.Native.Nat.{ℕ, _<_, _^_}
 use mathlib.Core.List.{List, [], _∷_}

@@ -1,5 +1,4 @@
 -- The eight tables of a circulant matrix, each byte sent on first, look up to its product. All eight columns are this law.
--- Assumes nothing.
 use mathlib.Core.Path.{_≡_, sym, ap, _∙_}
 use mathlib.Core.List.{List, []}
 use Prim.Native.Nat.{ℕ, _<_}

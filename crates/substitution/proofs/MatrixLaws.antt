@@ -1,5 +1,4 @@
 -- Circulant matrices times words: words again, and xor-linear.
--- Assumes nothing.
 use mathlib.Core.List.{List}
 use Prim.Native.Nat.{ℕ, _^_, _<_}
 use native.Mathlib.Nat.{mod-lt, zero-lt-suc}

@@ -1,5 +1,4 @@
 -- A circulant matrix keeps rotations of the bytes of a word, so two of them undo each other where they do so on the lowest byte.
--- Assumes nothing.
 use mathlib.Core.Path.{_≡_, sym, ap, ap₂, _∙_}
 use mathlib.Core.List.{List}
 use Prim.Native.Nat.{ℕ, zero, suc, _+_, _*_, _/_, _%_, _^_, _<_}

@@ -1,5 +1,4 @@
 -- The laws of π, M and T that specs/SubstitutionLaws.antt states.
--- Assumes nothing.
 use mathlib.Core.Path.{refl, ap, _∙_}
 use Rattle.galois.specs.Words.{UndoesWord}
 use Rattle.galois.specs.Field.{gmul}

@@ -1,5 +1,4 @@
 -- Bytes of a word through tables: tables that undo each other on bytes do so on words. Both directions of π are instances.
--- Assumes nothing.
 use mathlib.Core.Path.{_≡_, refl, ap, _∙_}
 use mathlib.Core.List.{List, []}
 use Prim.Native.Nat.{ℕ, _%_, _<_}

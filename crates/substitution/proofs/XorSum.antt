@@ -1,5 +1,4 @@
 -- Sums by xor: when they are bytes, equal, or xor-linear, and the word whose bytes are such sums.
--- Assumes nothing.
 use mathlib.Core.Path.{_≡_, refl, sym, ap, ap₂, _∙_}
 use Prim.Native.Nat.{ℕ, zero, suc, _+_, _*_, _<_}
 use native.Mathlib.Nat.{lt-suc-self, le-step}

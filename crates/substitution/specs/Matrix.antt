@@ -1,5 +1,4 @@
 -- "q = M·r in the byte field": circulant matrices of bytes, times the bytes of a word.
--- Assumes nothing.
 use mathlib.Core.List.{List, [], _∷_}
 use Prim.Native.Nat.{ℕ, zero, suc, _+_, _-_, _%_}
 use lib.Bits.{bitXor}

@@ -1,5 +1,4 @@
 -- Bytes of a word through four tables in turn: π, and its inverse.
--- Assumes nothing.
 use mathlib.Core.Bool.{true, false}
 use mathlib.Core.List.{List, [], _∷_}
 use Prim.Native.Nat.{ℕ, suc, _%_}

@@ -1,5 +1,4 @@
 -- "The four π tables are copied from DSTU 7624:2014". Made by tools/make-tables from data/pi-tables.txt.
--- Assumes nothing.
 use mathlib.Core.List.{List, [], _∷_}
 use Prim.Native.Nat.{ℕ}
 

@@ -1,5 +1,4 @@
 -- T, its inverse, and T through eight tables.
--- Assumes nothing.
 use mathlib.Core.List.{List, []}
 use Prim.Native.Nat.{ℕ}
 use lib.ListN.{getD}

@@ -1,5 +1,4 @@
 -- What is proved of π, M and T: proofs/SubstitutionLaws.antt has `substitution-laws : SubstitutionLaws`.
--- Assumes nothing.
 use mathlib.Core.Path.{_≡_}
 use mathlib.Core.List.{List, [], _∷_, map}
 use Prim.Native.Nat.{ℕ, _<_}

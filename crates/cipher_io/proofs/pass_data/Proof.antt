@@ -1,5 +1,4 @@
 -- `cipher_io::pass_data` ends: each piece but the last moves the position on, and no position is above the last one.
--- Assumes nothing.
 use mathlib.Core.Path.{_≡_}
 use lib.ListN.{length}
 use borrow.Author.Needs.{needs}

@@ -1,5 +1,4 @@
 -- `cipher_io::pass_piece` meets its contract.
--- Assumes nothing.
 use mathlib.Core.List.{List, _++_}
 use Prim.Native.Nat.{ℕ, _≤_}
 use native.Mathlib.Omega.{arith}

@@ -1,5 +1,4 @@
 -- `cipher_io::read_header` meets its contract: no header is longer than the longest.
--- Assumes nothing.
 use native.Mathlib.Omega.{arith}
 use borrow.Author.Needs.{needs}
 use Rattle.cipher_io.proofs.Pieces.{front-length}

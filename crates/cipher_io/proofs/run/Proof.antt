@@ -1,5 +1,4 @@
 -- `cipher_io::run` is safe and ends.
--- Assumes nothing.
 use borrow.Author.Needs.{needs}
 use Rattle.cipher_io.proofs.Pieces.{front-length}
 use Rattle.cipher_io.proofs.run.Statement.{statement}

@@ -1,5 +1,4 @@
 -- `columns::step_tables` meets its contract: the eight tables in their places, and two more.
--- Assumes nothing.
 use mathlib.Core.Path.{_≡_, refl, ap}
 use mathlib.Core.List.{List, [], _∷_, _++_}
 use Prim.Native.Nat.{ℕ}

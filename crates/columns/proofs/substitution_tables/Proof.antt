@@ -1,6 +1,5 @@
 -- `columns::substitution_tables` meets its contract: antt works the rule's tables out from the columns at the powers of two, and compares all
 -- 2,048 entries.
--- Assumes nothing.
 use mathlib.Core.Path.{refl, _∙_}
 use Rattle.galois.specs.Field.{gmul}
 use Rattle.substitution.specs.Pi.{pi, piInverse, sent}

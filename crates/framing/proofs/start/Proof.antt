@@ -1,5 +1,4 @@
 -- `framing::start` meets its contract: no header, one that is too short for the key, and one that has it.
--- Assumes nothing.
 use mathlib.Core.Path.{refl, _∙_}
 use mathlib.Core.List.{[]}
 use native.Mathlib.Omega.{arith}

@@ -1,5 +1,4 @@
 -- `galois::alpha_inverse_table` meets its contract: antt works the rule's table out from its entries at the powers of two, and compares all 256.
--- Assumes nothing.
 use mathlib.Core.Path.{refl, _∙_}
 use Rattle.galois.specs.Field.{gmul}
 use Rattle.galois.specs.Alpha.{scaled, alphaInverseRow, alphaInverseTable}

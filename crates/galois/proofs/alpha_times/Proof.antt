@@ -1,5 +1,4 @@
 -- `galois::alpha_times` meets its contract: the entry is the row times the byte.
--- Assumes nothing.
 use mathlib.Core.Path.{ap, _∙_}
 use Prim.Native.Nat.{_*_, _%_, _^_}
 use borrow.Author.Needs.{needs}

@@ -1,5 +1,4 @@
 -- `galois::beta_times` meets its contract: β times a byte is a byte, so the remainder by 256 keeps it.
--- Assumes nothing.
 use native.Mathlib.Nat.{mod-eq-of-lt}
 use borrow.Author.Needs.{needs}
 use Rattle.galois.proofs.Gmul.{xtime-lt}

@@ -1,5 +1,4 @@
 -- `galois::byte_of` meets its contract: past its eight bytes a word has none.
--- Assumes nothing.
 use mathlib.Core.Path.{sym}
 use borrow.Author.Needs.{needs}
 use Rattle.galois.proofs.Bytes.{byte-past}

@@ -1,5 +1,4 @@
 -- `galois::product` meets its contract: the sum so far ⊕ the product that is left is the product.
--- Assumes nothing.
 use mathlib.Core.Path.{_≡_, refl, sym, ap, _∙_, subst}
 use Prim.Native.Nat.{ℕ, _<_, _-_, _/_, _%_, _*_}
 use borrow.Author.Needs.{needs}

@@ -1,5 +1,4 @@
 -- `galois::scaled_row` meets its contract: the bytes from j on are in place.
--- Assumes nothing.
 use mathlib.Core.Path.{ap, _∙_}
 use Prim.Native.Nat.{ℕ}
 use borrow.Author.Needs.{needs}

@@ -1,5 +1,4 @@
 -- `generator::feedback` meets its contract.
--- Assumes nothing.
 use borrow.Author.Needs.{needs}
 use Rattle.generator.proofs.feedback.Statement.{statement}
 use Rattle.generator.proofs.feedback.Tie as tie

@@ -1,5 +1,4 @@
 -- `generator::filter` meets its contract: F.
--- Assumes nothing.
 use Rattle.generator.specs.Registers.{F}
 use borrow.Author.Needs.{needs}
 use Rattle.generator.proofs.filter.Statement.{statement}

@@ -1,5 +1,4 @@
 -- `generator::mix_in` meets its contract.
--- Assumes nothing.
 use mathlib.Core.Path.{refl}
 use borrow.Author.Needs.{needs}
 use Rattle.generator.proofs.mix_in.Statement.{statement}

@@ -1,5 +1,4 @@
 -- `generator::shift_in` meets its contract: the cells read one by one.
--- Assumes nothing.
 use Rattle.generator.proofs.Cells.{shift-in-is}
 use borrow.Author.Needs.{needs}
 use Rattle.generator.proofs.shift_in.Statement.{statement}

@@ -1,5 +1,4 @@
 -- `generator::shift_out` meets its contract: the cells read one by one.
--- Assumes nothing.
 use Rattle.generator.proofs.Cells.{shift-out-is}
 use borrow.Author.Needs.{needs}
 use Rattle.generator.proofs.shift_out.Statement.{statement}

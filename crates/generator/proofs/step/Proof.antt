@@ -1,5 +1,4 @@
 -- `generator::step` meets its contract: the parts of a step together.
--- Assumes nothing.
 use Rattle.generator.specs.Registers.{nextWith, keystreamWord}
 use borrow.Author.Needs.{needs}
 use Rattle.generator.proofs.step.Statement.{statement}

@@ -1,5 +1,4 @@
 -- `generator::step_back` meets its contract: the parts of a step back together.
--- Assumes nothing.
 use Rattle.generator.specs.Registers.{previousWith}
 use borrow.Author.Needs.{needs}
 use Rattle.generator.proofs.step_back.Statement.{statement}

@@ -1,5 +1,4 @@
 -- `generator::substitute` meets its contract: the entries at the eight bytes, in their order.
--- Assumes nothing.
 use mathlib.Core.Path.{refl}
 use borrow.Author.Needs.{needs}
 use Rattle.substitution.specs.Substitution.{lookUp}

@@ -1,5 +1,4 @@
 -- `keystream::apply_aligned` meets its contract: blocks, half a block, words and what is left.
--- Assumes nothing.
 use Prim.Native.Nat.{_*_, _/_}
 use native.Mathlib.Omega.{arith}
 use borrow.Author.Needs.{needs}

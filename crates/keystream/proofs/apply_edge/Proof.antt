@@ -1,5 +1,4 @@
 -- `keystream::apply_edge` meets its contract: nothing to do, or the step's word over the bytes, and the state after it where the word is used up.
--- Assumes nothing.
 use native.Mathlib.Omega.{arith}
 use borrow.Author.Needs.{needs}
 use Rattle.keystream.proofs.Parts.{done-none, done-all, stepped-over, left-over}

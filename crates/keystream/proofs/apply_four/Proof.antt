@@ -1,5 +1,4 @@
 -- `keystream::apply_four` meets its contract: four words.
--- Assumes nothing.
 use native.Mathlib.Omega.{arith}
 use borrow.Author.Needs.{needs}
 use Rattle.keystream.proofs.Parts.{four-words, done-all, done-length}

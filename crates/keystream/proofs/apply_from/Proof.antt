@@ -1,5 +1,4 @@
 -- `keystream::apply_from` meets its contract: up to the end of the word, or that and what follows.
--- Assumes nothing.
 use Prim.Native.Nat.{_-_, _%_}
 use native.Mathlib.Omega.{arith}
 use borrow.Author.Needs.{needs}

@@ -1,5 +1,4 @@
 -- `keystream::apply_half_block` meets its contract: nothing to do, or eight words.
--- Assumes nothing.
 use native.Mathlib.Omega.{arith}
 use borrow.Author.Needs.{needs}
 use Rattle.keystream.proofs.Parts.{done-none, done-all}

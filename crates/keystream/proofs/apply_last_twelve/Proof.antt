@@ -1,5 +1,4 @@
 -- `keystream::apply_last_twelve` meets its contract: four words, then the rest.
--- Assumes nothing.
 use mathlib.Core.Path.{refl}
 use native.Mathlib.Omega.{arith}
 use borrow.Author.Needs.{needs}

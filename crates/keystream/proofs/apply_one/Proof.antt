@@ -1,5 +1,4 @@
 -- `keystream::apply_one` meets its contract: a step, and its word over eight bytes.
--- Assumes nothing.
 use native.Mathlib.Omega.{arith}
 use borrow.Author.Needs.{needs}
 use Rattle.keystream.proofs.Parts.{stepped-over}

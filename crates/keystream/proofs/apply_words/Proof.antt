@@ -1,5 +1,4 @@
 -- `keystream::apply_words` meets its contract: after each turn, 8 bytes more are done.
--- Assumes nothing.
 use mathlib.Core.Path.{_≡_, _∙_}
 use Prim.Native.Nat.{_+_, _-_, _%_, _≤_}
 use native.Mathlib.Omega.{arith}

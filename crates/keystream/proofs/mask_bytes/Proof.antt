@@ -1,5 +1,4 @@
 -- `keystream::mask_bytes` meets its contract: after i turns the first i bytes are done.
--- Assumes nothing.
 use mathlib.Core.Path.{_≡_, refl, sym, ap, _∙_}
 use Prim.Native.Nat.{_+_, _-_, _≤_}
 use native.Mathlib.Omega.{arith}

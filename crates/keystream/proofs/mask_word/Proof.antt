@@ -1,5 +1,4 @@
 -- `keystream::mask_word` meets its contract: the bytes of a xor are the xors of the bytes.
--- Assumes nothing.
 use mathlib.Core.Path.{ap, _∙_}
 use Prim.Native.Nat.{ℕ}
 use lib.Bits.{bitXor}

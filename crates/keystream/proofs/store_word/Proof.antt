@@ -1,5 +1,4 @@
 -- `keystream::store_word` meets its contract: all eight bytes are set.
--- Assumes nothing.
 use native.Mathlib.Omega.{arith}
 use lib.ListN.{length-set}
 use borrow.Author.Needs.{needs}

@@ -1,5 +1,4 @@
 -- `loading::byte_from_end` meets its contract.
--- Assumes nothing.
 use mathlib.Core.Path.{sym}
 use borrow.Author.Needs.{needs}
 use Rattle.loading.proofs.Strings.{reverse-at, reverse-past}

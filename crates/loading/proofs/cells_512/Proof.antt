@@ -1,5 +1,4 @@
 -- `loading::cells_512` meets its contract: the table of rows, read.
--- Assumes nothing.
 use mathlib.Core.Path.{refl}
 use Rattle.loading.specs.Loading.{loadedCells}
 use borrow.Author.Needs.{needs}

@@ -1,5 +1,4 @@
 -- `loading::eight_words` meets its contract.
--- Assumes nothing.
 use borrow.Author.Needs.{needs}
 use Rattle.loading.proofs.eight_words.Statement.{statement}
 use Rattle.loading.proofs.eight_words.Tie as tie

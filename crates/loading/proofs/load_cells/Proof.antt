@@ -1,5 +1,4 @@
 -- `loading::load_cells` meets its contract.
--- Assumes nothing.
 use mathlib.Core.Path.{_∙_}
 use borrow.Author.Needs.{needs}
 use Rattle.loading.proofs.Loaded.{loaded-256, loaded-512}

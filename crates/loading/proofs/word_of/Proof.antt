@@ -1,5 +1,4 @@
 -- `loading::word_of` meets its contract: the bytes from j on are in place.
--- Assumes nothing.
 use Prim.Native.Nat.{_+_, _*_, _<_}
 use mathlib.Core.List.{reverse}
 use borrow.Author.Needs.{needs}

@@ -1,5 +1,4 @@
 -- `strumok::state_number` meets its contract.
--- Assumes nothing.
 use mathlib.Core.Path.{sym}
 use borrow.Author.Tests.{lt-ltb, le-ltb}
 use Rattle.strumok.specs.Refusals.{limit}

@@ -1,5 +1,4 @@
 -- `strumok_c::state_in` meets its contract: the words read one by one.
--- Assumes nothing.
 use Rattle.strumok_c.proofs.TwentyWords.{state-read}
 use borrow.Author.Needs.{needs}
 use Rattle.strumok_c.proofs.state_in.Statement.{statement}

@@ -1,5 +1,4 @@
 -- `strumok_c::strumok_apply` meets its contract.
--- Assumes nothing.
 use mathlib.Core.Path.{ap, _∙_}
 use Rattle.generator.specs.declared.State.{State}
 use Rattle.strumok.specs.Applying.{applied, appliedTarget}

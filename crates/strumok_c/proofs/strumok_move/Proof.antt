@@ -1,5 +1,4 @@
 -- `strumok_c::strumok_move` meets its contract: the distance is passed on as its bits, and read back.
--- Assumes nothing.
 use mir.Syntax.{w64}
 use mir.ValLaws.{toZ-ofZ}
 use mathlib.Core.Path.{ap, _∙_}

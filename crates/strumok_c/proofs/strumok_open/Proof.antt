@@ -1,5 +1,4 @@
 -- `strumok_c::strumok_open` meets its contract.
--- Assumes nothing.
 use mathlib.Core.Path.{ap, _∙_}
 use Rattle.strumok.specs.declared.Answer.{Answer}
 use Rattle.strumok_c.specs.TwentyWords.{wordsOf}

@@ -1,5 +1,4 @@
 -- `strumok_c::words_of` meets its contract: the cells read one by one.
--- Assumes nothing.
 use Rattle.strumok_c.proofs.TwentyWords.{words-read}
 use borrow.Author.Needs.{needs}
 use Rattle.strumok_c.proofs.words_of.Statement.{statement}

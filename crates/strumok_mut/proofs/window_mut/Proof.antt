@@ -1,7 +1,6 @@
 -- `strumok_mut::window_mut` meets its contract: a walk of its MIR, statement by statement. The borrow of the state is opened and the state is
 -- copied; the buffer goes on to `window` for good; the state that `window` answers with is stored, and the borrow is closed at it. All that the
 -- walk knows of `window` is that it meets its contract.
--- Assumes nothing.
 use mathlib.Core.Path.{_≡_, refl, ap}
 use Prim.Native.Nat.{ℕ, _<_, _^_}
 use mathlib.Core.List.{[], _∷_, List}

@@ -1,7 +1,6 @@
 -- `strumok_mut::window_through` meets its contract: a walk of its MIR, statement by statement. The state, copied to a local, is lent to
 -- `window_mut` for a lifetime that is made for the call, and comes back as the call left it. All that the walk knows of `window_mut` is that
 -- it meets its contract.
--- Assumes nothing.
 use mathlib.Core.Path.{_≡_, refl, ap, subst}
 use Prim.Native.Nat.{ℕ, _<_, _^_}
 use mathlib.Core.List.{[], _∷_, List}

@@ -1,5 +1,4 @@
 -- `substitution::circulant_times` meets its contract: the bytes from i on are in place.
--- Assumes nothing.
 use borrow.Author.Needs.{needs}
 use native.Mathlib.Omega.{arith}
 use Rattle.galois.proofs.Built.{Built, built-start, built-more, built-end}

@@ -1,5 +1,4 @@
 -- `substitution::pi_inverse_tables` meets its contract: antt computes the rule at all 1,024 entries and compares.
--- Assumes nothing.
 use mathlib.Core.Path.{refl}
 use Rattle.substitution.specs.Pi.{piInverse}
 use Rattle.substitution.proofs.pi_inverse_tables.Statement.{statement}

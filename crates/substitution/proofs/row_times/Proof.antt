@@ -1,5 +1,4 @@
 -- `substitution::row_times` meets its contract: after j turns the sum is that of the first j products.
--- Assumes nothing.
 use mathlib.Core.Path.{_≡_, refl, ap, ap₂, _∙_}
 use Prim.Native.Nat.{ℕ, _≤_, _-_}
 use borrow.Author.Needs.{needs}

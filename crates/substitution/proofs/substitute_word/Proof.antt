@@ -1,5 +1,4 @@
 -- `substitution::substitute_word` meets its contract: π, then M.
--- Assumes nothing.
 use mathlib.Core.Path.{ap₂, ap, _∙_}
 use mathlib.Core.List.{List}
 use Prim.Native.Nat.{ℕ}

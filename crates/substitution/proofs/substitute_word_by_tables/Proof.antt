@@ -1,5 +1,4 @@
 -- `substitution::substitute_word_by_tables` meets its contract: the entries at the eight bytes, in their order.
--- Assumes nothing.
 use mathlib.Core.Path.{refl}
 use borrow.Author.Needs.{needs}
 use Rattle.substitution.specs.Substitution.{lookUp}

@@ -1,5 +1,4 @@
 -- `substitution::substitute_word_inverse` meets its contract: the inverse of M, then that of π.
--- Assumes nothing.
 use mathlib.Core.Path.{ap₂, ap, _∙_}
 use mathlib.Core.List.{List}
 use Prim.Native.Nat.{ℕ}

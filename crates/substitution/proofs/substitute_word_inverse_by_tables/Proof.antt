@@ -1,5 +1,4 @@
 -- `substitution::substitute_word_inverse_by_tables` meets its contract: the inverse of M, then that of π.
--- Assumes nothing.
 use mathlib.Core.Path.{ap, _∙_}
 use Rattle.substitution.specs.Pi.{through}
 use borrow.Author.Needs.{needs}

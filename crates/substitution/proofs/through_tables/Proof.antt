@@ -1,5 +1,4 @@
 -- `substitution::through_tables` meets its contract: the bytes from j on are in place.
--- Assumes nothing.
 use mathlib.Core.Path.{ap}
 use Prim.Native.Nat.{_-_}
 use borrow.Author.Needs.{needs}

@@ -1,5 +1,4 @@
 -- `generator::walks::backward` meets its contract: ordinary steps by eight and then one by one, steps of initialisation one by one.
--- Assumes nothing.
 use Prim.Native.Nat.{_*_, _/_, _%_}
 use native.Mathlib.Omega.{arith}
 use borrow.Author.Needs.{needs}

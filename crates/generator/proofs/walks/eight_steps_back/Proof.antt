@@ -1,5 +1,4 @@
 -- `generator::walks::eight_steps_back` meets its contract: step after step.
--- Assumes nothing.
 use borrow.Author.Needs.{needs}
 use Rattle.generator.specs.declared.Kind.the-variants.{Ordinary}
 use Rattle.generator.specs.Functions.{previousBy}

@@ -1,5 +1,4 @@
 -- `generator::walks::steps_back_by_one` meets its contract: after i turns, i steps are undone.
--- Assumes nothing.
 use Prim.Native.Nat.{_≤_, _-_}
 use mathlib.Core.Path.{_≡_, refl}
 use native.Mathlib.Omega.{arith}

@@ -1,5 +1,4 @@
 -- `generator::walks::steps_by_eight` meets its contract: after i turns, 8 * i steps are taken.
--- Assumes nothing.
 use Prim.Native.Nat.{_+_, _*_, _≤_, _-_}
 use mathlib.Core.Path.{_≡_, refl}
 use native.Mathlib.Omega.{arith}

@@ -1,5 +1,4 @@
 -- `loading::recovering::key_words` meets its contract: the table of rows, read the other way.
--- Assumes nothing.
 use borrow.Author.Needs.{needs}
 use Rattle.galois.specs.Words.{at}
 use Rattle.loading.proofs.Loaded.{words-256, words-512}

@@ -1,5 +1,4 @@
 -- `loading::recovering::recover_key` meets its contract.
--- Assumes nothing.
 use mathlib.Core.Path.{_∙_}
 use borrow.Author.Needs.{needs}
 use lib.ListN.{length}

@@ -1,5 +1,4 @@
 -- `loading::recovering::word_at` meets its contract.
--- Assumes nothing.
 use mathlib.Core.Path.{_≡_, sym}
 use borrow.Author.Needs.{needs}
 use lib.ListN.{length, List·getD-eq-default}

@@ -1,5 +1,4 @@
 -- `loading::recovering::write_words` meets its contract: after p turns the first p bytes are those of the string.
--- Assumes nothing.
 use mathlib.Core.Path.{_≡_, refl, ap, _∙_}
 use Prim.Native.Nat.{ℕ, _+_, _-_, _/_, _%_, _≤_}
 use native.Mathlib.Omega.{arith}

@@ -1,5 +1,4 @@
 -- `strumok::applying::advancing_number` meets its contract: each way out is the number of one test.
--- Assumes nothing.
 use mathlib.Core.Path.{sym, _∙_}
 use native.Mathlib.Omega.{arith}
 use borrow.Author.Needs.{needs}

@@ -1,5 +1,4 @@
 -- `strumok::applying::apply` meets its contract: the tables are the cipher's.
--- Assumes nothing.
 use mathlib.Core.Path.{ap, _∙_}
 use mathlib.Core.List.{List}
 use Prim.Native.Nat.{ℕ}

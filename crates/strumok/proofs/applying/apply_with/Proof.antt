@@ -1,5 +1,4 @@
 -- `strumok::applying::apply_with` meets its contract: refused, nothing is done; else the source is copied and the keystream applied to the copy.
--- Assumes nothing.
 use mathlib.Core.Path.{_≡_, sym, ap, _∙_}
 use borrow.Author.Needs.{needs}
 use lib.ListN.{length}

@@ -1,5 +1,4 @@
 -- `strumok::applying::past_end` meets its contract: past the end already where the window starts, or by the room that is left there.
--- Assumes nothing.
 use mathlib.Core.Path.{sym}
 use Prim.Native.Nat.{_+_}
 use native.Mathlib.Omega.{arith}

@@ -1,5 +1,4 @@
 -- `strumok::applying::window_with` meets its contract: refused, nothing is done; else the keystream is applied to the part of the buffer.
--- Assumes nothing.
 use mathlib.Core.Path.{_≡_, sym, ap, _∙_}
 use mathlib.Core.Bool.{Bool}
 use native.Mathlib.Omega.{arith}

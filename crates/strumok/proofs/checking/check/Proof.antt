@@ -1,6 +1,5 @@
 -- `strumok::checking::check` meets its contract: refused, nothing is written; else the key is recovered apart, loaded again and compared, and
 -- copied to the target where that is the loading.
--- Assumes nothing.
 use mathlib.Core.Path.{_≡_, sym, _∙_}
 use native.Mathlib.Omega.{arith}
 use borrow.Author.Needs.{needs}

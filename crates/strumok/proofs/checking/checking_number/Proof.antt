@@ -1,5 +1,4 @@
 -- `strumok::checking::checking_number` meets its contract: each way out is the number of one test.
--- Assumes nothing.
 use mathlib.Core.Path.{sym, _∙_}
 use borrow.Author.Needs.{needs}
 use Rattle.strumok.specs.Refusals.{WellFormed}

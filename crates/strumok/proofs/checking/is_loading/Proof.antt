@@ -1,5 +1,4 @@
 -- `strumok::checking::is_loading` meets its contract: a loading has both registers 0.
--- Assumes nothing.
 use mathlib.Core.Path.{_≡_, ap, _∙_}
 use mathlib.Core.List.{List}
 use Prim.Native.Nat.{ℕ}

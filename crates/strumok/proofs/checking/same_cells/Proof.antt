@@ -1,5 +1,4 @@
 -- `strumok::checking::same_cells` meets its contract: after i turns the first i cells are equal, and the others decide.
--- Assumes nothing.
 use mathlib.Core.Path.{_≡_, refl, sym, _∙_}
 use Prim.Native.Nat.{_-_}
 use native.Mathlib.Numerals.{add-one}

@@ -1,5 +1,4 @@
 -- `strumok::checking::walk_to_loading` meets its contract: the tables are those of T inverted and of α inverse.
--- Assumes nothing.
 use mathlib.Core.Path.{_≡_, ap, _∙_}
 use Prim.Native.Nat.{_+_, _/_}
 use borrow.Author.Needs.{needs}

@@ -1,5 +1,4 @@
 -- `strumok::moving::move_by` meets its contract: each way out is one place where a move can end.
--- Assumes nothing.
 use mir.Syntax.{w64}
 use mir.ValLaws.{toZ-ofZ}
 use mathlib.Core.Path.{_≡_, sym, ap, _∙_}

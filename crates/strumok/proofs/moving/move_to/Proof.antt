@@ -1,5 +1,4 @@
 -- `strumok::moving::move_to` meets its contract.
--- Assumes nothing.
 use borrow.Author.Needs.{needs}
 use Rattle.strumok.proofs.Moves.{moved-ahead, moved-behind}
 use Rattle.strumok.proofs.moving.move_to.Statement.{statement}

@@ -1,5 +1,4 @@
 -- `strumok::moving::span_of` meets its contract, at the most negative count too.
--- Assumes nothing.
 use Rattle.strumok.proofs.Signed.{turned-fits, turned-cast, turned-span, kept-cast, kept-span}
 use Rattle.strumok.proofs.moving.span_of.Statement.{statement}
 use Rattle.strumok.proofs.moving.span_of.Tie as tie

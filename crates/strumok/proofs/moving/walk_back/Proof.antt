@@ -1,5 +1,4 @@
 -- `strumok::moving::walk_back` meets its contract: the tables are those of T inverted and of α inverse.
--- Assumes nothing.
 use mathlib.Core.Path.{_∙_}
 use borrow.Author.Needs.{needs}
 use Rattle.generator.specs.declared.Kind.the-variants.{Ordinary}

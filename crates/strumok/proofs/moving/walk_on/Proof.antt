@@ -1,5 +1,4 @@
 -- `strumok::moving::walk_on` meets its contract: the tables are the cipher's.
--- Assumes nothing.
 use mathlib.Core.Path.{_∙_}
 use borrow.Author.Needs.{needs}
 use Rattle.generator.specs.declared.Kind.the-variants.{Ordinary}

@@ -1,5 +1,4 @@
 -- `strumok::opening::initialise` meets its contract: the tables are the cipher's.
--- Assumes nothing.
 use mathlib.Core.Path.{_≡_, ap, _∙_}
 use borrow.Author.Needs.{needs}
 use Rattle.generator.specs.declared.Kind.the-variants.{Ordinary, Initial}

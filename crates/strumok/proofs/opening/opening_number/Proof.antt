@@ -1,5 +1,4 @@
 -- `strumok::opening::opening_number` meets its contract.
--- Assumes nothing.
 use mathlib.Core.Path.{sym}
 use borrow.Author.Tests.{eq-eqb, ne-eqb}
 use Rattle.strumok.proofs.Tests.{one-of, none-of}

@@ -1,5 +1,4 @@
 -- `tables::hex::digit_at` meets its contract, on either side of 10.
--- Assumes nothing.
 use borrow.Author.Needs.{needs}
 use borrow.Author.Tests.{lt-ltb, le-ltb}
 use Rattle.tables.proofs.hex.digit_at.Statement.{statement}

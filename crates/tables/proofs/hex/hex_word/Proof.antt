@@ -1,5 +1,4 @@
 -- `tables::hex::hex_word` meets its contract, digit by digit.
--- Assumes nothing.
 use borrow.Author.Needs.{needs}
 use Rattle.tables.specs.Hex.{hexWord}
 use Rattle.tables.proofs.hex.hex_word.Statement.{statement}

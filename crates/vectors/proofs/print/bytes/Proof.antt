@@ -1,5 +1,4 @@
 -- `vectors::print::bytes` is safe and ends.
--- Assumes nothing.
 use Prim.Native.Nat.{_-_}
 use native.Mathlib.Omega.{arith}
 use lib.ListN.{length}

@@ -1,5 +1,4 @@
 -- `vectors::print::words` is safe and ends.
--- Assumes nothing.
 use Prim.Native.Nat.{_-_, _≤_}
 use native.Mathlib.Omega.{arith}
 use lib.ListN.{length}
