@@ -9,11 +9,12 @@ use lib.Dec.{eqb}
 use lib.ListN.{length, take, length-append}
 use lib.Seq.{length-take-le}
 use Rattle.generator.specs.declared.State.{State}
-use Rattle.strumok.specs.Refusals.{limit, accepted, windowTest}
-use Rattle.strumok.specs.Moving.{movedTo}
-use Rattle.strumok.specs.Applying.{windowed}
-use Rattle.strumok.proofs.Portions.{advances}
-use Rattle.strumok.proofs.MovingLaws.{position-moved}
+use Rattle.answers.specs.Numbers.{limit, accepted}
+use Rattle.answers.specs.Tests.{windowTest}
+use Rattle.positions.specs.Positions.{movedTo}
+use Rattle.applying.specs.Applying.{windowed}
+use Rattle.applying.proofs.Portions.{advances}
+use Rattle.positions.proofs.PositionLaws.{position-laws}
 
 pub front-length : (n : ℕ) (l : List ℕ) → n ≤ length l → n ≡ length (take n l)
 front-length n l h = sym (length-take-le n l h)
@@ -41,12 +42,12 @@ module _ (s : State) (piece : List ℕ) where
   not-back = by (eqb (windowed s piece 0 n .number) accepted)
     where
       by : (b : Bool) → s .position ≤ cond b (movedTo s (s .position + n)) s .position
-      by true = rw (position-moved s (s .position + n)) (omega arith)
+      by true = rw (position-laws .position-moved s (s .position + n)) (omega arith)
       by false = le-refl (s .position)
 
   module _ (e : windowed s piece 0 n .number ≡ accepted) where
     there : after .position ≡ s .position + n
-    there = rw e (position-moved s (s .position + n))
+    there = rw e (position-laws .position-moved s (s .position + n))
 
     room : s .position + n ≤ limit
     room = advances s (windowTest n 0 n) n tt e .room

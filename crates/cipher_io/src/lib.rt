@@ -4,8 +4,10 @@ ghost use mathlib.Core.Bool.{true};
 ghost use Prim.Native.Nat.{_<_, _≤_};
 ghost use lib.ListN.{length};
 ghost use Rattle.io.specs.Counts.{Counts};
-ghost use Rattle.strumok.specs.Refusals.{limit, accepted};
-ghost use Rattle.strumok.specs.Applying.{windowed, windowedBuffer};
+ghost use Rattle.answers.specs.Numbers.{limit, accepted};
+ghost use Rattle.applying.specs.Applying.{windowed, windowedBuffer};
+use answers::numbers;
+use applying::window;
 use framing::LONGEST_HEADER;
 use framing::header_rest;
 use framing::room;
@@ -13,8 +15,6 @@ use framing::start;
 use generator::State;
 use libc::STDIN_FILENO;
 use libc::STDOUT_FILENO;
-use strumok::refusals;
-use strumok::window;
 
 // Reads the header to the front of a buffer that is long enough, as much of it as there is, and answers its length.
 fn read_header(bytes: &mut [u8]) -> usize
@@ -61,7 +61,7 @@ fn write_piece(s: State, piece: &mut [u8]) -> Turn
     let n = piece.len();
     let answer = window(s, piece, 0, n);
     let t = answer.state;
-    let written = answer.number == refusals::ACCEPTED && io::write_all(STDOUT_FILENO, piece);
+    let written = answer.number == numbers::ACCEPTED && io::write_all(STDOUT_FILENO, piece);
     Turn {
         state: t,
         more: written,
@@ -102,7 +102,7 @@ pub fn run() {
     let mut header: [u8; 288] = [0; LONGEST_HEADER];
     let n = read_header(&mut header);
     let answer = start(&header[..n]);
-    if answer.number != refusals::ACCEPTED {
+    if answer.number != numbers::ACCEPTED {
         write_refusal(answer.number);
         return;
     }

@@ -13,17 +13,17 @@ use Rattle.generator.proofs.Cells.{take-lt, drop-lt}
 use Rattle.keystream.specs.Keystream.{masked}
 use Rattle.keystream.proofs.Masked.{masked-append, masked-ext}
 use Rattle.loading.specs.Loading.{Bytes}
-use Rattle.strumok.specs.declared.Answer.{Answer}
-use Rattle.strumok.specs.Refusals.{limit, accepted, windowTest, returned, WellFormed}
-use Rattle.strumok.specs.Opening.{opened, Accepted, Leads}
-use Rattle.strumok.specs.Moving.{movedTo}
-use Rattle.strumok.specs.Applying.{keystreamByte, keystreamByteOf, withKeystream, windowTests, windowed, windowedBuffer}
-use Rattle.strumok.proofs.Tests.{answer-accepted, written-accepted}
-use Rattle.strumok.proofs.Portions.{accepts}
-use Rattle.strumok.proofs.MovingLaws.{moved-well-formed, position-moved, moved-to-leads}
-use Rattle.strumok.proofs.ApplyingLaws.{applying-laws}
-use Rattle.strumok.specs.Demands.{Reached}
-use Rattle.strumok.proofs.Chains.{reached-leads, reached-well-formed}
+use Rattle.answers.specs.declared.Answer.{Answer}
+use Rattle.answers.specs.Numbers.{limit, accepted}
+use Rattle.answers.specs.Tests.{windowTest, returned, WellFormed}
+use Rattle.opening.specs.Opening.{opened, OpeningAccepts, Leads}
+use Rattle.positions.specs.Positions.{movedTo}
+use Rattle.applying.specs.Applying.{keystreamByte, keystreamByteOf, withKeystream, windowTests, windowed, windowedBuffer}
+use Rattle.answers.proofs.Tests.{answer-accepted, written-accepted}
+use Rattle.applying.proofs.Portions.{accepts}
+use Rattle.positions.proofs.PositionLaws.{position-laws}
+use Rattle.applying.proofs.ApplyingLaws.{applying-laws}
+use Rattle.opening.proofs.OpeningLaws.{opening-laws}
 use Rattle.framing.specs.Framing.{keyLengthIn, keyIn, ivIn, dataIn, started, dataOut, piecesOut, joined}
 use Rattle.framing.specs.FramingLaws.{FramingLaws}
 use Rattle.framing.proofs.Header.{header, header-alone, parts}
@@ -54,7 +54,7 @@ module _ (key iv : List ℕ) where
       let p = s .position in
       let long = length-append piece (joined pieces) in
       let here : p + length piece ≤ limit = omega (arith, room, long) in
-      let there = position-moved s (p + length piece) in
+      let there = position-laws .position-moved s (p + length piece) in
       ap₂ _++_
       (
       piece-bytes s piece ok here
@@ -62,7 +62,7 @@ module _ (key iv : List ℕ) where
       )
       (
       ap (λ (t : State). joined (piecesOut t pieces)) (piece-state s piece ok here)
-      ∙ pieces-joined (movedTo s (p + length piece)) pieces (moved-to-leads key iv s (p + length piece) l) (moved-well-formed s (p + length piece) ok here)
+      ∙ pieces-joined (movedTo s (p + length piece)) pieces (position-laws .moved-leads key iv s (p + length piece) l) (position-laws .moved-well-formed s (p + length piece) ok here)
       (rw there (omega (arith, room, long)))
       ∙ ap (λ (q : ℕ). masked (keystreamByte key iv) q (joined pieces)) there
       )
@@ -82,14 +82,8 @@ module _ (input : List ℕ) (bytes : Bytes input) where
       by false j = part-bytes (keyLengthIn input) 1 j
 
   module _ (e : opened (keyIn input) (ivIn input) .number ≡ accepted) where
-    accepts-both : Accepted (keyIn input) (ivIn input)
+    accepts-both : OpeningAccepts (keyIn input) (ivIn input)
     accepts-both = record { key-bytes = key-bytes; iv-bytes = part-bytes 32 (1 + keyLengthIn input); opens = e }
-
-    start : Reached (keyIn input) (ivIn input) [] (opened (keyIn input) (ivIn input) .state)
-    start = record { opening = accepts-both; accepts = tt; state = refl }
-
-    from-0 : opened (keyIn input) (ivIn input) .state .position ≡ 0
-    from-0 = rw e
 
 within : (m p : ℕ) (xs l : List ℕ) → p ≡ 0 → xs ≡ take m l → p + length xs ≤ m
 within m p xs l ep ex = rw (ep, ex) (omega (arith, length-take m l))
@@ -100,10 +94,12 @@ pieces :
 unfolding started dataOut
 pieces input ps bytes e all =
     let s = opened (keyIn input) (ivIn input) .state in
-    let reached = start input bytes e in
-    let room = within limit (s .position) (joined ps) (dataIn input) (from-0 input bytes e) all in
-    pieces-joined (keyIn input) (ivIn input) s ps (reached-leads reached) (reached-well-formed reached) room
-    ∙ ap₂ (λ (p : ℕ) (xs : List ℕ). masked (keystreamByte (keyIn input) (ivIn input)) p xs) (from-0 input bytes e) all
+    let accepts = accepts-both input bytes e in
+    let from-0 = opening-laws .opened-position (keyIn input) (ivIn input) accepts in
+    let room = within limit (s .position) (joined ps) (dataIn input) from-0 all in
+    pieces-joined (keyIn input) (ivIn input) s ps
+    (opening-laws .opened-leads (keyIn input) (ivIn input) accepts) (opening-laws .opened-well-formed (keyIn input) (ivIn input) accepts) room
+    ∙ ap₂ (λ (p : ℕ) (xs : List ℕ). masked (keystreamByte (keyIn input) (ivIn input)) p xs) from-0 all
 
 pub framing-laws : FramingLaws
 framing-laws = record { parts = parts; header = header; header-alone = header-alone; pieces = pieces }

@@ -10,10 +10,11 @@ use borrow.Author.Tests.{lt-ltb, le-ltb, ltb-true, ltb-false}
 use lib.Dec.{ltb}
 use lib.ListN.{length, take, drop, length-append, length-take, length-drop, take-append-drop, List·getD-append}
 use lib.Seq.{length-take-le, take-all, take-append-le, drop-append-le, getD-take, drop-drop, drop-cons}
-use Rattle.strumok.specs.Refusals.{accepted, keyLength, ivLength, keyLengthTest, ivLengthTest}
-use Rattle.strumok.specs.Opening.{blank, openedState, openingTests, opened}
-use Rattle.strumok.specs.Demands.{NoneApplies, RefusesExactly}
-use Rattle.strumok.proofs.Lines.{Decides, neither, is-not, refuses-exactly}
+use Rattle.answers.specs.Numbers.{accepted, refusedKeyLength, refusedIvLength}
+use Rattle.answers.specs.Tests.{keyLengthTest, ivLengthTest}
+use Rattle.opening.specs.Opening.{blank, openedState, openingTests, opened}
+use Rattle.answers.specs.Lines.{NoneApplies, RefusesExactly}
+use Rattle.answers.proofs.Lines.{Decides, key-length-decides, iv-length-decides, refuses-exactly}
 use Rattle.framing.specs.Framing.{keyLengthIn, keyIn, ivIn, dataIn, started}
 use Rattle.framing.specs.FramingLaws.{headerLines}
 
@@ -99,14 +100,14 @@ module _ (input : List ℕ) where
       by (inl h) = short-other h
       by (inr h) = (λ e. o .0 (sym (key-whole-length h) ∙ e), λ e. o .1 (sym (key-whole-length h) ∙ e))
 
-  line-1 : Decides (keyLengthTest (keyIn input)) (record { number = keyLength; When = NoKey })
-  line-1 = let d = neither 1 (length (keyIn input)) 32 64 in record { number = refl; yes = λ e. other-no-key (d .yes e); no = λ e w. d .no e (no-key-other w) }
+  line-1 : Decides (keyLengthTest (keyIn input)) (record { number = refusedKeyLength; When = NoKey })
+  line-1 = let d = key-length-decides (keyIn input) in record { number = refl; yes = λ e. other-no-key (d .yes e); no = λ e w. d .no e (no-key-other w) }
 
   iv-length : length (ivIn input) ≡ min 32 (n - (1 + k))
   iv-length = simp (length-take, length-drop) refl
 
-  line-2 : Decides (ivLengthTest (ivIn input)) (record { number = ivLength; When = n < 33 + k })
-  line-2 = let d = is-not 2 (length (ivIn input)) 32 in record { number = refl; yes = λ e. yes (d .yes e) (below-or-not n (33 + k)); no = λ e w. d .no e (no w) }
+  line-2 : Decides (ivLengthTest (ivIn input)) (record { number = refusedIvLength; When = n < 33 + k })
+  line-2 = let d = iv-length-decides (ivIn input) in record { number = refl; yes = λ e. yes (d .yes e) (below-or-not n (33 + k)); no = λ e w. d .no e (no w) }
     where
       yes : (length (ivIn input) ≡ 32 → ⊥) → (n < 33 + k) ⊎ (33 + k ≤ n) → n < 33 + k
       yes o (inl h) = h

@@ -7,10 +7,10 @@ use lib.ListN.{length, take, drop}
 use Rattle.galois.specs.Words.{at}
 use Rattle.generator.specs.declared.State.{State}
 use Rattle.keystream.specs.Keystream.{masked}
-use Rattle.strumok.specs.declared.Answer.{Answer}
-use Rattle.strumok.specs.Refusals.{limit}
-use Rattle.strumok.specs.Opening.{opened}
-use Rattle.strumok.specs.Applying.{keystreamByte, windowed, windowedBuffer}
+use Rattle.answers.specs.declared.Answer.{Answer}
+use Rattle.answers.specs.Numbers.{limit}
+use Rattle.opening.specs.Opening.{opened}
+use Rattle.applying.specs.Applying.{keystreamByte, windowed, windowedBuffer}
 
 -- "one byte giving the key length": 0 where there is none
 abbrev pub keyLengthIn : (input : List ℕ) → ℕ

@@ -5,16 +5,16 @@ use mathlib.Core.List.{List, [], _∷_, _++_}
 use Prim.Native.Nat.{ℕ, _+_, _<_}
 use lib.ListN.{length, take}
 use Rattle.loading.specs.Loading.{Bytes}
-use Rattle.strumok.specs.Refusals.{limit, accepted, keyLength, ivLength}
-use Rattle.strumok.specs.Opening.{blank}
-use Rattle.strumok.specs.Demands.{Line, RefusesExactly}
+use Rattle.answers.specs.Numbers.{limit, accepted, refusedKeyLength, refusedIvLength}
+use Rattle.opening.specs.Opening.{blank}
+use Rattle.answers.specs.Lines.{Line, RefusesExactly}
 use Rattle.framing.specs.Framing.{keyLengthIn, keyIn, ivIn, dataIn, started, dataOut, piecesOut, joined}
 
 -- "Input too short for the key counts as 1, too short for the IV as 2", beside opening's own 1 for a key length
 abbrev pub headerLines : (input : List ℕ) → List Line
 headerLines input =
-    record { number = keyLength; When = (length input < 1 + keyLengthIn input) ⊎ ((keyLengthIn input ≡ 32 → ⊥) × (keyLengthIn input ≡ 64 → ⊥)) }
-    ∷ record { number = ivLength; When = length input < 33 + keyLengthIn input }
+    record { number = refusedKeyLength; When = (length input < 1 + keyLengthIn input) ⊎ ((keyLengthIn input ≡ 32 → ⊥) × (keyLengthIn input ≡ 64 → ⊥)) }
+    ∷ record { number = refusedIvLength; When = length input < 33 + keyLengthIn input }
     ∷ []
 
 pub record FramingLaws : Type 0 where

@@ -1,12 +1,12 @@
 // The cipher program's input: the state that its header opens, and how much of the data to take at a time.
 ghost use mathlib.Core.Path.{_≡_};
 ghost use Prim.Native.Nat.{_+_, _-_, _<_, _≤_, min};
-ghost use Rattle.strumok.specs.Refusals.{limit};
+ghost use Rattle.answers.specs.Numbers.{limit};
 ghost use Rattle.framing.specs.Framing.{started};
+use answers::Answer;
+use answers::numbers;
 use generator::State;
-use strumok::Answer;
-use strumok::open;
-use strumok::refusals;
+use opening::open;
 
 // The bytes of an IV.
 pub const IV_BYTES: usize = 32;
@@ -60,8 +60,8 @@ pub fn room(s: State, len: usize) -> usize
     ensures { λ r. ⌜ r ≤ len ⌝ }
 {
     let p = s.position;
-    if p > refusals::LIMIT {
+    if p > numbers::LIMIT {
         return 0;
     }
-    least(len, (refusals::LIMIT - p) as usize)
+    least(len, (numbers::LIMIT - p) as usize)
 }

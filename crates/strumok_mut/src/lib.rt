@@ -1,9 +1,9 @@
 // The window call with the state lent, for firmware: as `&mut`, exported for C, and by value above that.
 ghost use mathlib.Core.Path.{_≡_};
-ghost use Rattle.strumok.specs.Applying.{windowed, windowedBuffer};
+ghost use Rattle.applying.specs.Applying.{windowed, windowedBuffer};
+use answers::Answer;
+use applying::window;
 use generator::State;
-use strumok::Answer;
-use strumok::window;
 
 // The keystream over count bytes of the buffer from start on, and the state found moved on afterwards; or a refusal, with both as they were.
 #[no_mangle]

@@ -2,8 +2,8 @@
 use mathlib.Core.Path.{sym, ap, _∙_}
 use borrow.Author.Needs.{needs}
 use borrow.Author.Tests.{eqb-true}
-use Rattle.strumok.specs.Refusals.{accepted}
-use Rattle.strumok.specs.declared.Answer.{Answer}
+use Rattle.answers.specs.Numbers.{accepted}
+use Rattle.answers.specs.declared.Answer.{Answer}
 use Rattle.cipher_io.proofs.write_piece.Statement.{statement}
 use Rattle.cipher_io.proofs.write_piece.Tie as tie
 

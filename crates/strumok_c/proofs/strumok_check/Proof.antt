@@ -1,8 +1,8 @@
 -- `strumok_c::strumok_check` meets its contract.
 use mathlib.Core.Path.{ap, _∙_}
 use Rattle.generator.specs.declared.State.{State}
-use Rattle.strumok.specs.Checking.{checked, checkedTarget}
-use Rattle.strumok.specs.declared.Answer.{Answer}
+use Rattle.checking.specs.Checking.{checked, checkedTarget}
+use Rattle.answers.specs.declared.Answer.{Answer}
 use borrow.Author.Needs.{needs}
 use Rattle.strumok_c.proofs.strumok_check.Statement.{statement}
 use Rattle.strumok_c.proofs.strumok_check.Tie as tie

@@ -1,8 +1,7 @@
 -- `strumok_c::strumok_window` meets its contract.
-use mathlib.Core.Path.{ap, _∙_}
 use Rattle.generator.specs.declared.State.{State}
-use Rattle.strumok.specs.Applying.{windowed, windowedBuffer}
-use Rattle.strumok_c.proofs.TwentyWords.{answered}
+use Rattle.applying.specs.Applying.{windowed, windowedBuffer}
+use Rattle.twenty_words.proofs.TwentyWords.{answered-with}
 use borrow.Author.Needs.{needs}
 use Rattle.strumok_c.proofs.strumok_window.Statement.{statement}
 use Rattle.strumok_c.proofs.strumok_window.Tie as tie
@@ -10,10 +9,8 @@ use Rattle.strumok_c.proofs.strumok_window.Tie as tie
 returns : tie.Need-returns
 returns c =
     let call = c .before .before .before .before in
-    let args = call .before .before .before .before .before .args in
-    let held = call .before .before .state-in .ensures in
-    let answer = answered (λ (s : State). windowed s (args .buffer .now) (args .start) (args .count)) held (call .window .ensures .0) (c .words-of .ensures) in
-    (answer .0, (answer .1, call .window .ensures .1 ∙ ap (λ (s : State). windowedBuffer s (args .buffer .now) (args .start) (args .count)) held))
+    let a = call .before .before .before .before .before .args in
+    answered-with (λ (s : State). windowed s (a .buffer .now) (a .start) (a .count)) (λ (s : State). windowedBuffer s (a .buffer .now) (a .start) (a .count)) (call .before .before .state-in .ensures) (call .window .ensures .0) (call .window .ensures .1) (c .leave .ensures .0) (c .leave .ensures .1)
 
 pub strumok-window-spec : {M : Type 1} → statement M
 strumok-window-spec = tie.close (tie.spec (λ c κs. search needs) (λ c κs. search needs) (λ c κs. search needs) (λ c. search needs) returns)

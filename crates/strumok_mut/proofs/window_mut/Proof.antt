@@ -45,14 +45,14 @@ use denote.Signature.{plain}
 use Rattle.generator.specs.declared.State.{State}
 use Rattle.generator.proofs.State as T
 use Rattle.generator.proofs.State.Laws as T′
-use Rattle.strumok.specs.declared.Answer.{Answer}
-use Rattle.strumok.specs.Applying.{windowed, windowedBuffer}
-use Rattle.strumok.proofs.Answer as P
-use Rattle.strumok.proofs.Answer.Laws as P′
-use Rattle.strumok.proofs.window as window
-use Rattle.strumok.proofs.window.Symbol as window-def
-use Rattle.strumok.proofs.window.Symbol.{name as #strumok·window}
-use Rattle.strumok.proofs.window.Met as window-thm
+use Rattle.answers.specs.declared.Answer.{Answer}
+use Rattle.applying.specs.Applying.{windowed, windowedBuffer}
+use Rattle.answers.proofs.Answer as P
+use Rattle.answers.proofs.Answer.Laws as P′
+use Rattle.applying.proofs.window as window
+use Rattle.applying.proofs.window.Symbol as window-def
+use Rattle.applying.proofs.window.Symbol.{name as #applying·window}
+use Rattle.applying.proofs.window.Met as window-thm
 use Rattle.strumok_mut.proofs.Walks.{R, mach, Known, state-typed, state-owned, All, joined, joined-in, hears, ends-saying, then-counts}
 use Rattle.strumok_mut.proofs.window_mut.Key.{name as #strumok-mut·window-mut}
 use Rattle.strumok_mut.proofs.window_mut as window-mut
@@ -128,7 +128,7 @@ module _ {M : Type 1} (𝓤 : URA M) (H : Heap 𝓤) (A : Atoms 𝓤) (W : Given
       owned ! u64 (Is u64) (uint-makes 𝓤 H A W w64) (r .number) _ (refl, fits) $ move ! (1 ∷ []) $ done !
 
   -- ---- the walk
-  module _ (C : Calls 𝓤 H) (Λ : Loops 𝓤 H) (fm : FmC 𝓤 H (W .laws) C) (known : Triple 𝓤 (C #strumok·window) (Window 𝓤 H A at-mem run)) where
+  module _ (C : Calls 𝓤 H) (Λ : Loops 𝓤 H) (fm : FmC 𝓤 H (W .laws) C) (known : Triple 𝓤 (C #applying·window) (Window 𝓤 H A at-mem run)) where
     walk : Room u8 (length (buffer .now)) → ent 𝓤 (onEntry 𝓤 H A window-mut.signature (κ, (κ′, tt)) (q, (q′, tt)) a vals) (WpFn 𝓤 H C Λ code.function (ptr ∷ slice ∷ vint w64 start ∷ vint w64 count ∷ []) (Walked .post bound))
     walk room =
         qed W ((‵ (flft κ q) ⊛ ‵ (flft κ′ q′) ⊛ ‵ ftrue) ∷ ‵ (owns (MutRef (named 0) κ R ∷ MutSlice (named 1) κ′ u8 ∷ usize ∷ usize ∷ []) a vals) ∷ []) ∵
@@ -173,7 +173,7 @@ module _ {M : Type 1} (𝓤 : URA M) (H : Heap 𝓤) (A : Atoms 𝓤) (W : Given
         keep ! (0 ∷ 1 ∷ 2 ∷ 4 ∷ 5 ∷ []) $ by ! (exits r (zs .1 .0) (number-fits r is) e l)))))))))))))))))))
 
 module _ {M : Type 1} (𝓤 : URA M) (H : Heap 𝓤) (A : Atoms 𝓤) (W : Given 𝓤 H A) (mem : Memory → SProp 𝓤) (run : Routine → Fun 𝓤) where
-  window-mut-walks : (C : Calls 𝓤 H) (Λ : Loops 𝓤 H) → FmC 𝓤 H (W .laws) C → Triple 𝓤 (C #strumok·window) (Window 𝓤 H A mem run)
+  window-mut-walks : (C : Calls 𝓤 H) (Λ : Loops 𝓤 H) → FmC 𝓤 H (W .laws) C → Triple 𝓤 (C #applying·window) (Window 𝓤 H A mem run)
       → Walks 𝓤 H A window-mut.ended stayed (WpFn 𝓤 H C Λ code.function) (window-mut.clauses 𝓤 H A mem run)
   window-mut-walks C Λ fm known =
       walked 𝓤 H A window-mut.ended stayed (window-mut.clauses 𝓤 H A mem run) (WpFn 𝓤 H C Λ code.function) (λ κs. (ptr-vals, (slice-vals, (uint-vals w64, (uint-vals w64, tt)))))
@@ -181,7 +181,7 @@ module _ {M : Type 1} (𝓤 : URA M) (H : Heap 𝓤) (A : Atoms 𝓤) (W : Given
       (λ κs qs bounds a g are. via 𝓤 _ (fst∗ 𝓤 _ (emp 𝓤))
       (walk 𝓤 H A W mem run (κs .0) (κs .1 .0) bounds (qs .0) (qs .1 .0) (a .0) (a .1 .0) (a .1 .1 .0) (a .1 .1 .1 .0) (are .1 .1 .0 .1) (are .1 .1 .1 .0 .1) C Λ fm known (are .1 .0 .0 .1)))
 
-window-mut-meets : {M : Type 1} (𝓤 : URA M) (H : Heap 𝓤) (A : Atoms 𝓤) → Given 𝓤 H A → (mem : Memory → SProp 𝓤) (run : Routine → Fun 𝓤) (𝓣 : Tables 𝓤 H) → Triple 𝓤 (𝓣 .C #strumok·window) (Window 𝓤 H A mem run)
+window-mut-meets : {M : Type 1} (𝓤 : URA M) (H : Heap 𝓤) (A : Atoms 𝓤) → Given 𝓤 H A → (mem : Memory → SProp 𝓤) (run : Routine → Fun 𝓤) (𝓣 : Tables 𝓤 H) → Triple 𝓤 (𝓣 .C #applying·window) (Window 𝓤 H A mem run)
     → Meets 𝓤 H A window-mut.signature (WpFn 𝓤 H (𝓣 .C) (𝓣 .Λ) code.function) (window-mut.spec 𝓤 H A mem run)
 window-mut-meets 𝓤 H A W mem run 𝓣 known =
     walk-meets 𝓤 H A window-mut.ended stayed W
@@ -195,4 +195,4 @@ window-mut-spec 𝓤 H 𝓜 𝓖 𝓡 =
     entered 𝓤 H (tripleOf 𝓤 H (𝓖 .A) window-mut.signature (window-mut.spec 𝓤 H (𝓖 .A) (𝓜 .mem) (𝓡 .run)))
     (tables 𝓤 H 𝓜 𝓡 code.env .C) (tables 𝓤 H 𝓜 𝓡 code.env .Λ) #strumok-mut·window-mut code.function (code.unfolded 𝓤 H 𝓜 𝓡)
     (window-mut-meets 𝓤 H (𝓖 .A) (givenOf 𝓤 H 𝓜 𝓖) (𝓜 .mem) (𝓡 .run) (tablesOf 𝓤 H 𝓜 (tables 𝓤 H 𝓜 𝓡 code.env))
-    (cited 𝓤 H (Window 𝓤 H (𝓖 .A) (𝓜 .mem) (𝓡 .run)) 𝓜 𝓡 code.env #strumok·window window-def.routine code.calls-strumok·window (window-thm.met 𝓤 H 𝓜 𝓖 𝓡)))
+    (cited 𝓤 H (Window 𝓤 H (𝓖 .A) (𝓜 .mem) (𝓡 .run)) 𝓜 𝓡 code.env #applying·window window-def.routine code.calls-applying·window (window-thm.met 𝓤 H 𝓜 𝓖 𝓡)))

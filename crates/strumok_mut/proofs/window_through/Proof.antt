@@ -46,10 +46,10 @@ use borrow.Table.OneValue.{part-in, part-out}
 use Rattle.generator.specs.declared.State.{State}
 use Rattle.generator.proofs.State as T
 use Rattle.generator.proofs.State.Laws as T′
-use Rattle.strumok.specs.declared.Answer.{Answer}
-use Rattle.strumok.specs.Applying.{windowed, windowedBuffer}
-use Rattle.strumok.proofs.Answer as P
-use Rattle.strumok.proofs.Answer.Laws as P′
+use Rattle.answers.specs.declared.Answer.{Answer}
+use Rattle.applying.specs.Applying.{windowed, windowedBuffer}
+use Rattle.answers.proofs.Answer as P
+use Rattle.answers.proofs.Answer.Laws as P′
 use Rattle.strumok_mut.proofs.Walks.{R, mach, Known, state-typed, state-owned, All, joined, joined-in, hears, ends-saying, then-counts}
 use Rattle.strumok_mut.proofs.window_mut as window-mut
 use Rattle.strumok_mut.proofs.window_mut.Symbol as window-mut-def

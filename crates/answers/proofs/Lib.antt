@@ -1,0 +1,3 @@
+-- The proofs of what all calls share.
+pub mod Tests
+pub mod Lines

@@ -1,0 +1,134 @@
+-- Lists of tests that compute whether the lines of document 01's table apply: what they return, and the answer of a call.
+use mathlib.Core.Path.{_≡_, refl, sym, _∙_, subst}
+use mathlib.Core.Logic.{_⊎_, inl, inr}
+use mathlib.Core.Bool.{Bool, true, false, true≢false, cond, not, _||_}
+use mathlib.Core.List.{List, [], _∷_, _++_}
+use Prim.Native.Nat.{ℕ, _+_, _/_, _<_}
+use borrow.Author.Tests.{eqb-true, eqb-false, ne-eqb, ltb-true, ltb-false, not-true, not-false}
+use native.Mathlib.Nat.{not-le-of-lt}
+use lib.Dec.{T, eqb, ltb}
+use lib.IntN.{ℤ, pos}
+use lib.ListN.{length}
+use lib.Signed.{ltZ, _<ℤ_}
+use Rattle.galois.proofs.Computed.{both-right}
+use Rattle.generator.specs.declared.State.{State}
+use Rattle.answers.specs.Numbers.{limit, accepted}
+use Rattle.answers.specs.Tests.{Test, keyLengthTest, ivLengthTest, sizeMarkTest, positionTest, targetTest, windowTest, newPositionAboveTest, newPositionBelowTest, keyTargetTest, stateTests, returned, answer, written}
+use Rattle.answers.specs.Lines.{Line, keyLengthLine, ivLengthLine, sizeMarkLine, positionLine, targetLine, windowLine, newPositionAboveLine, newPositionBelowLine, keyTargetLine, stateLines, NumberOfFirst, NoneApplies, RefusesExactly}
+use Rattle.answers.proofs.Tests.{one-of, is-one-of, numbered, returned-none}
+
+-- ---- lists of tests
+
+-- a test has the line's number, and computes whether the line applies
+pub record Decides (t : Test) (line : Line) : Type 0 where
+  pub number : t .number ≡ line .number
+  pub yes : t .applies ≡ true → line .When
+  pub no : t .applies ≡ false → line .When → ⊥
+
+-- each does, where none before it applies, and where none applies there is the rest
+abbrev pub DecideThen : Type 0 → List Test → List Line → Type 0
+DecideThen Rest [] [] = Rest
+DecideThen Rest [] (line ∷ lines) = ⊥
+DecideThen Rest (t ∷ ts) [] = ⊥
+DecideThen Rest (t ∷ ts) (line ∷ lines) = Decides t line × (t .applies ≡ false → DecideThen Rest ts lines)
+
+abbrev pub DecideAll : List Test → List Line → Type 0
+DecideAll = DecideThen Unit
+
+pub first-line : (ts : List Test) (lines : List Line) → DecideAll ts lines → NumberOfFirst (returned ts) lines
+first-line [] [] d = refl
+first-line [] (line ∷ lines) d = absurd d
+first-line (t ∷ ts) [] d = absurd d
+first-line (t ∷ ts) (line ∷ lines) d = by (t .applies) refl (λ e. first-line ts lines (d .1 e))
+  where
+    by : (b : Bool) → t .applies ≡ b → (t .applies ≡ false → NumberOfFirst (returned ts) lines) → NumberOfFirst (cond b (t .number) (returned ts)) (line ∷ lines)
+    by true e r = inl (d .0 .yes e, d .0 .number)
+    by false e r = inr (d .0 .no e, r e)
+
+pub none-applies : (n : ℕ) (lines : List Line) → NumberOfFirst n lines → NoneApplies lines → n ≡ accepted
+none-applies n [] r h = r
+none-applies n (line ∷ lines) (inl r) h = absurd (h .0 (r .0))
+none-applies n (line ∷ lines) (inr r) h = none-applies n lines (r .1) (h .1)
+
+accepted-none : (ts : List Test) (lines : List Line) → T (numbered ts) → DecideAll ts lines → returned ts ≡ accepted → NoneApplies lines
+accepted-none [] [] n d e = tt
+accepted-none [] (line ∷ lines) n d e = absurd d
+accepted-none (t ∷ ts) [] n d e = absurd d
+accepted-none (t ∷ ts) (line ∷ lines) n d e =
+    let r = returned-none t ts n e in
+    (d .0 .no (r .0), accepted-none ts lines (both-right (not (eqb (t .number) accepted)) (numbered ts) n) (d .1 (r .0)) (r .1))
+
+-- what follows may count on all before it
+pub decide-append : (ts us : List Test) (lines more : List Line) → DecideAll ts lines → (returned ts ≡ accepted → DecideAll us more) → DecideAll (ts ++ us) (lines ++ more)
+decide-append [] us [] more d h = h refl
+decide-append [] us (line ∷ lines) more d h = absurd d
+decide-append (t ∷ ts) us [] more d h = absurd d
+decide-append (t ∷ ts) us (line ∷ lines) more d h = (d .0, λ e. decide-append ts us lines more (d .1 e) (λ z. h (rw e z)))
+
+pub refuses-exactly : (ts : List Test) (lines : List Line) (made back : State) → T (numbered ts) → DecideAll ts lines → RefusesExactly (answer ts made back) lines back
+refuses-exactly ts lines made back n d =
+    record {
+      first = first-line ts lines d;
+      accepts = none-applies (returned ts) lines (first-line ts lines d);
+      accepts-only = accepted-none ts lines n d;
+      gives-back = λ h. rw (ne-eqb (returned ts) accepted h);
+    }
+
+pub writes-nothing : (ts : List Test) (made held : List ℕ) → (returned ts ≡ accepted → ⊥) → written ts made held ≡ held
+writes-nothing ts made held h = rw (ne-eqb (returned ts) accepted h)
+
+-- ---- the forms of a test
+
+neither : (k n a b : ℕ) → Decides (record { number = k; applies = not (eqb n a || eqb n b) }) (record { number = k; When = (n ≡ a → ⊥) × (n ≡ b → ⊥) })
+neither k n a b =
+    record {
+      number = refl;
+      yes = λ e. (λ q. true≢false (sym e ∙ one-of n a b (inl q)), λ q. true≢false (sym e ∙ one-of n a b (inr q)));
+      no = λ e h. by h (is-one-of n a b e);
+    }
+  where
+    by : (n ≡ a → ⊥) × (n ≡ b → ⊥) → (n ≡ a) ⊎ (n ≡ b) → ⊥
+    by h (inl q) = h .0 q
+    by h (inr q) = h .1 q
+
+is-not : (k n a : ℕ) → Decides (record { number = k; applies = not (eqb n a) }) (record { number = k; When = n ≡ a → ⊥ })
+is-not k n a = record { number = refl; yes = λ e. eqb-false n a (not-true (eqb n a) e); no = λ e h. h (eqb-true n a (not-false (eqb n a) e)) }
+
+above : (k a n : ℕ) → Decides (record { number = k; applies = ltb a n }) (record { number = k; When = a < n })
+above k a n = record { number = refl; yes = ltb-true a n; no = λ e h. not-le-of-lt h (ltb-false a n e) }
+
+above-ℤ : (k : ℕ) (a n : ℤ) → Decides (record { number = k; applies = ltZ a n }) (record { number = k; When = a <ℤ n })
+above-ℤ k a n = record { number = refl; yes = λ e. record { lt = subst T (sym e) tt }; no = λ e h. subst T e (h .lt) }
+
+-- ---- each test computes whether its line applies
+
+pub key-length-decides : (key : List ℕ) → Decides (keyLengthTest key) (keyLengthLine key)
+key-length-decides key = neither 1 (length key) 32 64
+
+pub iv-length-decides : (iv : List ℕ) → Decides (ivLengthTest iv) (ivLengthLine iv)
+iv-length-decides iv = is-not 2 (length iv) 32
+
+size-mark-decides : (s : State) → Decides (sizeMarkTest s) (sizeMarkLine s)
+size-mark-decides s = neither 3 (s .size) 256 512
+
+position-decides : (s : State) → Decides (positionTest s) (positionLine s)
+position-decides s = above 4 limit (s .position)
+
+pub target-decides : (n len : ℕ) → Decides (targetTest n len) (targetLine n len)
+target-decides n len = above 5 len n
+
+pub window-decides : (len start count : ℕ) → Decides (windowTest len start count) (windowLine len start count)
+window-decides len start count = above 6 len (start + count)
+
+pub new-position-above-decides : (to : ℤ) → Decides (newPositionAboveTest to) (newPositionAboveLine to)
+new-position-above-decides to = above-ℤ 7 (pos limit) to
+
+pub new-position-below-decides : (to : ℤ) → Decides (newPositionBelowTest to) (newPositionBelowLine to)
+new-position-below-decides to = above-ℤ 8 to (pos 0)
+
+pub key-target-decides : (s : State) (len : ℕ) → Decides (keyTargetTest s len) (keyTargetLine s len)
+key-target-decides s len = is-not 9 len (s .size / 8)
+
+-- 3 and 4, before the rest
+pub state-decides : (s : State) {Rest : Type 0} → Rest → DecideThen Rest (stateTests s) (stateLines s)
+state-decides s rest = (size-mark-decides s, λ t3. (position-decides s, λ t4. rest))

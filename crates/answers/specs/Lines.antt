@@ -1,0 +1,80 @@
+-- Document 01, the table of returned numbers: each line but 10 as a proposition, and what demand 1 asks of a call that is refused by such lines.
+use mathlib.Core.Path.{_≡_}
+use mathlib.Core.Logic.{_⊎_}
+use mathlib.Core.List.{List, [], _∷_}
+use Prim.Native.Nat.{ℕ, _+_, _/_, _<_}
+use lib.IntN.{ℤ, pos}
+use lib.ListN.{length}
+use lib.Signed.{_<ℤ_}
+use Rattle.generator.specs.declared.State.{State}
+use Rattle.answers.specs.declared.Answer.{Answer}
+use Rattle.answers.specs.Numbers.{limit, accepted, refusedKeyLength, refusedIvLength, refusedSizeMark, refusedPositionAbove, refusedTargetShorter, refusedWindowPastEnd, refusedNewPositionAbove, refusedNewPositionBelow, refusedKeyTargetLength}
+
+-- a line of the table: its number, and when it applies
+pub record Line : Type 1 where
+  pub number : ℕ
+  pub When : Type 0
+
+-- ---- the lines
+
+-- "key length neither 32 nor 64"
+abbrev pub keyLengthLine : (key : List ℕ) → Line
+keyLengthLine key = record { number = refusedKeyLength; When = (length key ≡ 32 → ⊥) × (length key ≡ 64 → ⊥) }
+
+-- "IV length not 32"
+abbrev pub ivLengthLine : (iv : List ℕ) → Line
+ivLengthLine iv = record { number = refusedIvLength; When = length iv ≡ 32 → ⊥ }
+
+-- "size mark neither 256 nor 512"
+abbrev pub sizeMarkLine : State → Line
+sizeMarkLine s = record { number = refusedSizeMark; When = (s .size ≡ 256 → ⊥) × (s .size ≡ 512 → ⊥) }
+
+-- "position above 16,777,216"
+abbrev pub positionLine : State → Line
+positionLine s = record { number = refusedPositionAbove; When = limit < s .position }
+
+-- "target shorter than source": a source of n bytes and a target of len
+abbrev pub targetLine : (n len : ℕ) → Line
+targetLine n len = record { number = refusedTargetShorter; When = len < n }
+
+-- "window start + count above the buffer length, as whole numbers": a buffer of len bytes
+abbrev pub windowLine : (len start count : ℕ) → Line
+windowLine len start count = record { number = refusedWindowPastEnd; When = len < start + count }
+
+-- "new position would be above 16,777,216"
+abbrev pub newPositionAboveLine : (to : ℤ) → Line
+newPositionAboveLine to = record { number = refusedNewPositionAbove; When = pos limit <ℤ to }
+
+-- "new position would be below 0"
+abbrev pub newPositionBelowLine : (to : ℤ) → Line
+newPositionBelowLine to = record { number = refusedNewPositionBelow; When = to <ℤ pos 0 }
+
+-- "key target length not size mark / 8": a key target of len bytes
+abbrev pub keyTargetLine : State → (len : ℕ) → Line
+keyTargetLine s len = record { number = refusedKeyTargetLength; When = len ≡ s .size / 8 → ⊥ }
+
+-- 3 and 4, the lines of a state
+abbrev pub stateLines : State → List Line
+stateLines s = sizeMarkLine s ∷ positionLine s ∷ []
+
+-- ---- a call that is refused by lines
+
+-- "The lowest number that applies is returned, and otherwise 0": n is the number of the first line that applies, and 0 where none does
+abbrev pub NumberOfFirst : ℕ → List Line → Type 0
+NumberOfFirst n [] = n ≡ accepted
+NumberOfFirst n (line ∷ lines) = (line .When × (n ≡ line .number)) ⊎ ((line .When → ⊥) × NumberOfFirst n lines)
+
+abbrev pub NoneApplies : List Line → Type 0
+NoneApplies [] = Unit
+NoneApplies (line ∷ lines) = (line .When → ⊥) × NoneApplies lines
+
+-- a call that answers a, where these lines are tested and a refusal gives this state back
+pub record RefusesExactly (a : Answer) (lines : List Line) (back : State) : Type 0 where
+  pub first : NumberOfFirst (a .number) lines
+  pub accepts : NoneApplies lines → a .number ≡ accepted
+  pub accepts-only : a .number ≡ accepted → NoneApplies lines
+  pub gives-back : (a .number ≡ accepted → ⊥) → a .state ≡ back
+
+-- "writes nothing": where the call is refused, a buffer that held these bytes is left with them
+abbrev pub WritesNothing : Answer → (held left : List ℕ) → Type 0
+WritesNothing a held left = (a .number ≡ accepted → ⊥) → left ≡ held

@@ -1,0 +1,144 @@
+-- The laws of the check that specs/CheckingLaws.antt states: whether a key leads to a stored state, and which.
+use mathlib.Core.Path.{_≡_, refl, sym, ap, ap₂, _∙_}
+use mathlib.Core.Logic.{_⊎_}
+use mathlib.Core.Bool.{Bool, true, false, true≢false, cond}
+use mathlib.Core.List.{List, [], _∷_}
+use Prim.Native.Nat.{ℕ, _/_}
+use native.Mathlib.Omega.{arith}
+use borrow.Author.Tests.{not-true, not-false}
+use lib.Dec.{eqb}
+use lib.ListN.{length}
+use Rattle.generator.specs.declared.State.{State}
+use Rattle.generator.specs.declared.Kind.the-variants.{Ordinary}
+use Rattle.generator.specs.Registers.{Registers, EighteenWords, registersOf, next, iterate}
+use Rattle.loading.specs.Loading.{Bytes, sizeMark, load, initialised, registersAt}
+use Rattle.loading.specs.Recovery.{loadedFrom, recoveredKey}
+use Rattle.loading.proofs.LoadingLaws.{loading-laws}
+use Rattle.answers.specs.Numbers.{accepted, refusedNoKeyLeads}
+use Rattle.answers.specs.Tests.{returned, WellFormed}
+use Rattle.answers.specs.Lines.{NoneApplies}
+use Rattle.answers.proofs.Lines.{Decides, DecideAll, first-line, none-applies, decide-append, refuses-exactly, writes-nothing, iv-length-decides, state-decides, key-target-decides}
+use Rattle.opening.specs.Opening.{Leads}
+use Rattle.opening.proofs.Opened.{key-of-size, both-fit, key-and-iv}
+use Rattle.checking.specs.Checking.{loadedOf, keyOf, loadsAgain, noKeyLeadsTest, noKeyLeadsLine, testsBefore10, linesBefore10, checkingTests, checkingLines, checked, checkedTarget}
+use Rattle.checking.specs.CheckingLaws.{CheckingRefusals, Stored, StoredChecked, CheckingLaws}
+use Rattle.checking.proofs.Checks.{Checkable, all-fit, checkable, registers-same, same-registers, decided}
+
+-- ---- a key that leads to the state is found
+
+module _ (s : State) (iv key : List ℕ) (l : Leads key iv s) where
+  loaded : loadedOf s ≡ load key iv
+  unfolding loadedOf registersAt
+  loaded = ap (loadedFrom (s .position / 8)) (l .registers) ∙ loading-laws .walk-back-undoes (s .position / 8) .undone (load key iv) (loading-laws .loads-words key iv (key-and-iv (l .opening)))
+
+  key-found : keyOf s iv ≡ key
+  unfolding keyOf
+  key-found =
+      let n : s .size / 8 ≡ length key = omega (arith, l .size) in
+      ap₂ (λ (n : ℕ) (r : Registers). recoveredKey n iv (r .cells)) n loaded ∙ loading-laws .recovers key iv (key-and-iv (l .opening))
+
+  loads-again : loadsAgain s iv ≡ true
+  loads-again = same-registers (load (keyOf s iv) iv) (loadedOf s) (ap (λ (k : List ℕ). load k iv) key-found ∙ sym loaded)
+
+-- ---- and a key that loads again leads to the state
+
+module _ (s : State) (iv : List ℕ) where
+  found-length : length (keyOf s iv) ≡ s .size / 8
+  unfolding keyOf
+  found-length = loading-laws .recovered-length (s .size / 8) iv (loadedOf s .cells)
+
+  found-bytes : Bytes (keyOf s iv)
+  unfolding keyOf
+  found-bytes = loading-laws .recovered-bytes (s .size / 8) iv (loadedOf s .cells)
+
+module _ (s : State) (iv : List ℕ) (words : EighteenWords (registersOf s)) (bytes : Bytes iv) {len : ℕ} (fits : Checkable s iv len) where
+  found-sized : ((length (keyOf s iv) ≡ 32) ⊎ (length (keyOf s iv) ≡ 64)) × (s .size ≡ sizeMark (keyOf s iv))
+  found-sized = key-of-size (fits .size) (found-length s iv)
+
+  found-leads : loadsAgain s iv ≡ true → Leads (keyOf s iv) iv s
+  unfolding loadedOf registersAt
+  found-leads e =
+      let n = s .position / 8 in
+      record {
+        opening = record { key-bytes = found-bytes s iv; iv-bytes = bytes; opens = both-fit (keyOf s iv) iv (found-sized .0) (fits .iv-length) };
+        size = found-sized .1;
+        registers = sym (ap (λ (r : Registers). iterate (next Ordinary) n (initialised r)) (registers-same (load (keyOf s iv) iv) (loadedOf s) e) ∙ loading-laws .walk-back-undone n .undone (registersOf s) words);
+      }
+
+  -- so test 10 computes whether line 10 applies
+  decides-10 : Decides (noKeyLeadsTest s iv) (noKeyLeadsLine s iv)
+  decides-10 =
+      record {
+        number = refl;
+        yes = λ e key l. true≢false (sym (loads-again s iv key l) ∙ not-true (loadsAgain s iv) e);
+        no = λ e none. none (keyOf s iv) (found-leads (not-false (loadsAgain s iv) e));
+      }
+
+-- ---- the lines of checking
+
+module _ (s : State) (iv target : List ℕ) where
+  decided-before-10 : DecideAll (testsBefore10 s iv (length target)) (linesBefore10 s iv (length target))
+  decided-before-10 = (iv-length-decides iv, λ t2. state-decides s (key-target-decides s (length target), λ t9. tt))
+
+  accepted-before-10 : NoneApplies (linesBefore10 s iv (length target)) → returned (testsBefore10 s iv (length target)) ≡ accepted
+  accepted-before-10 = none-applies (returned (testsBefore10 s iv (length target))) (linesBefore10 s iv (length target)) (first-line (testsBefore10 s iv (length target)) (linesBefore10 s iv (length target)) decided-before-10)
+
+  unaltered : checked s iv target .state ≡ s
+  unaltered = by (eqb (returned (checkingTests s iv (length target))) accepted)
+    where
+      by : (b : Bool) → cond b s s ≡ s
+      by true = refl
+      by false = refl
+
+  module _ (words : EighteenWords (registersOf s)) (bytes : Bytes iv) where
+    checking-decided : DecideAll (checkingTests s iv (length target)) (checkingLines s iv (length target))
+    checking-decided =
+        decide-append (testsBefore10 s iv (length target)) (noKeyLeadsTest s iv ∷ []) (linesBefore10 s iv (length target)) (noKeyLeadsLine s iv ∷ []) decided-before-10
+        (λ passed. (decides-10 s iv words bytes (checkable s iv (length target) passed), λ t10. tt))
+
+-- ---- the demand
+
+leads-accepted : (s : State) (iv target : List ℕ) → returned (testsBefore10 s iv (length target)) ≡ accepted → (key : List ℕ) → Leads key iv s → (checked s iv target .number ≡ accepted) × (checkedTarget s iv target ≡ key)
+leads-accepted s iv target passed key l =
+    let zero : checked s iv target .number ≡ accepted = decided s iv target passed (loads-again s iv key l) in
+    (zero, rw zero (key-found s iv key l))
+
+stored : StoredChecked
+stored s iv target words bytes none =
+    record {
+      accepts = λ key l. leads-accepted s iv target passed key l .0;
+      accepts-only = accepts-only (loadsAgain s iv) refl;
+      only-one = λ key key′ l l′. sym (key-found s iv key l) ∙ key-found s iv key′ l′;
+      handed-back = λ key l. leads-accepted s iv target passed key l .1;
+      refuses = refuses (loadsAgain s iv) refl;
+    }
+  where
+    passed : returned (testsBefore10 s iv (length target)) ≡ accepted
+    passed = accepted-before-10 s iv target none
+
+    led : loadsAgain s iv ≡ true → Leads (keyOf s iv) iv s
+    led = found-leads s iv words bytes (checkable s iv (length target) passed)
+
+    accepts-only : (b : Bool) → loadsAgain s iv ≡ b → checked s iv target .number ≡ accepted → (key : List ℕ) × Leads key iv s
+    accepts-only true e z = (keyOf s iv, led e)
+    accepts-only false e z = absurd (omega (arith, z, decided s iv target passed e))
+
+    refuses : (b : Bool) → loadsAgain s iv ≡ b → ((key : List ℕ) → Leads key iv s → ⊥) → (checked s iv target .number ≡ refusedNoKeyLeads) × (checkedTarget s iv target ≡ target)
+    refuses true e no-key = absurd (no-key (keyOf s iv) (led e))
+    refuses false e no-key = let ten : checked s iv target .number ≡ refusedNoKeyLeads = decided s iv target passed e in (ten, rw ten)
+
+leads-checked : (key iv : List ℕ) (s : State) (target : List ℕ) → Leads key iv s → WellFormed s → length target ≡ length key → (checked s iv target ≡ record { number = accepted; state = s }) × (checkedTarget s iv target ≡ key)
+leads-checked key iv s target l ok e =
+    let n : length target ≡ s .size / 8 = omega (arith, l .size) in
+    let both = leads-accepted s iv target (all-fit s iv (length target) (key-and-iv (l .opening) .iv-length) ok n) key l in
+    (ap₂ (λ (k : ℕ) (x : State). record { number = k; state = x }) (both .0) (unaltered s iv target), both .1)
+
+refuses : CheckingRefusals
+refuses s iv target words bytes =
+    let tests = checkingTests s iv (length target) in (
+      refuses-exactly tests (checkingLines s iv (length target)) s s tt (checking-decided s iv target words bytes),
+      writes-nothing tests (keyOf s iv) target,
+    )
+
+pub checking-laws : CheckingLaws
+checking-laws = record { refuses = refuses; stored = stored; unaltered = unaltered; leads-checked = leads-checked }

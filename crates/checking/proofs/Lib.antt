@@ -1,0 +1,3 @@
+-- The proofs of checking's laws.
+pub mod Checks
+pub mod CheckingLaws

@@ -1,0 +1,44 @@
+-- What is proved of the check of a stored state: proofs/CheckingLaws.antt has `checking-laws : CheckingLaws`.
+use mathlib.Core.Path.{_≡_}
+use mathlib.Core.List.{List}
+use Prim.Native.Nat.{ℕ}
+use lib.ListN.{length}
+use Rattle.generator.specs.declared.State.{State}
+use Rattle.generator.specs.Registers.{EighteenWords, registersOf}
+use Rattle.loading.specs.Loading.{Bytes}
+use Rattle.answers.specs.Numbers.{accepted, refusedNoKeyLeads}
+use Rattle.answers.specs.Tests.{WellFormed}
+use Rattle.answers.specs.Lines.{NoneApplies, RefusesExactly, WritesNothing}
+use Rattle.opening.specs.Opening.{Leads}
+use Rattle.checking.specs.Checking.{linesBefore10, checkingLines, checked, checkedTarget}
+
+-- demand 1, of checking: for every key target, a state whose registers are any eighteen words, and an IV of any bytes
+abbrev pub CheckingRefusals : Type 0
+CheckingRefusals =
+    (s : State) (iv target : List ℕ) → EighteenWords (registersOf s) → Bytes iv
+    → RefusesExactly (checked s iv target) (checkingLines s iv (length target)) s × WritesNothing (checked s iv target) target (checkedTarget s iv target)
+
+-- demand 3, of a state, an IV and a key target to which none of 2, 3, 4 and 9 applies
+pub record Stored (s : State) (iv target : List ℕ) : Type 0 where
+  -- "exactly when some key of its size that opening accepts with that IV leads to that very state"
+  pub accepts : (key : List ℕ) → Leads key iv s → checked s iv target .number ≡ accepted
+  pub accepts-only : checked s iv target .number ≡ accepted → (key : List ℕ) × Leads key iv s
+  -- "There is then only one such key, and the check hands back its bytes"
+  pub only-one : (key key′ : List ℕ) → Leads key iv s → Leads key′ iv s → key ≡ key′
+  pub handed-back : (key : List ℕ) → Leads key iv s → checkedTarget s iv target ≡ key
+  -- "otherwise it answers 10 and the target keeps its bytes"
+  pub refuses : ((key : List ℕ) → Leads key iv s → ⊥) → (checked s iv target .number ≡ refusedNoKeyLeads) × (checkedTarget s iv target ≡ target)
+
+-- "Whatever its registers hold and at whatever point it claims to be": any eighteen words and any position up to the last. The IV is any bytes.
+abbrev pub StoredChecked : Type 0
+StoredChecked = (s : State) (iv target : List ℕ) → EighteenWords (registersOf s) → Bytes iv → NoneApplies (linesBefore10 s iv (length target)) → Stored s iv target
+
+pub record CheckingLaws : Type 0 where
+  pub refuses : CheckingRefusals
+  pub stored : StoredChecked
+  -- the state comes back as it came, accepted or not
+  pub unaltered : (s : State) (iv target : List ℕ) → checked s iv target .state ≡ s
+  -- a well-formed state to which a key leads is accepted with its IV, and the key is handed back
+  pub leads-checked :
+      (key iv : List ℕ) (s : State) (target : List ℕ) → Leads key iv s → WellFormed s → length target ≡ length key
+      → (checked s iv target ≡ record { number = accepted; state = s }) × (checkedTarget s iv target ≡ key)

@@ -1,0 +1,3 @@
+-- The definitions that the contracts of checking cite, and its laws.
+pub mod Checking
+pub mod CheckingLaws

@@ -1,0 +1,20 @@
+-- Document 01, "Positions, windows, moves": moving a state.
+use mathlib.Core.List.{List, [], _∷_, _++_}
+use lib.IntN.{ℤ, natAbs}
+use Rattle.generator.specs.declared.State.{State}
+use Rattle.answers.specs.declared.Answer.{Answer}
+use Rattle.answers.specs.Tests.{Test, stateTests, newPosition, newPositionAboveTest, newPositionBelowTest, answer}
+use Rattle.answers.specs.Lines.{Line, stateLines, newPositionAboveLine, newPositionBelowLine}
+use Rattle.positions.specs.Positions.{movedTo}
+
+-- "moving 3, 4, 7, 8": as tests, and as lines of the table
+abbrev pub movingTests : State → (distance : ℤ) → List Test
+movingTests s distance = stateTests s ++ (newPositionAboveTest (newPosition s distance) ∷ newPositionBelowTest (newPosition s distance) ∷ [])
+
+abbrev pub movingLines : State → (distance : ℤ) → List Line
+movingLines s distance = stateLines s ++ (newPositionAboveLine (newPosition s distance) ∷ newPositionBelowLine (newPosition s distance) ∷ [])
+
+-- "A move is a signed 64-bit count of bytes, negative towards the start; an accepted one leaves the state at the old position plus that
+-- count.", "other refusals return the state unaltered"
+abbrev pub moved : State → (distance : ℤ) → Answer
+moved s distance = answer (movingTests s distance) (movedTo s (natAbs (newPosition s distance))) s

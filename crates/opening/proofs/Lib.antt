@@ -1,0 +1,3 @@
+-- The proofs of opening's laws.
+pub mod Opened
+pub mod OpeningLaws

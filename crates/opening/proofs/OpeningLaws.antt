@@ -1,0 +1,42 @@
+-- The laws of opening that specs/OpeningLaws.antt states.
+use mathlib.Core.Path.{_≡_, refl, sym, subst}
+use mathlib.Core.List.{List}
+use Prim.Native.Nat.{ℕ}
+use Rattle.loading.specs.Loading.{sizeMark}
+use Rattle.loading.proofs.LoadingLaws.{loading-laws, size-of}
+use Rattle.answers.specs.Tests.{WellFormed}
+use Rattle.answers.proofs.Tests.{one-of}
+use Rattle.answers.proofs.Lines.{refuses-exactly, key-length-decides, iv-length-decides}
+use Rattle.opening.specs.Opening.{blank, openedState, openingTests, openingLines, opened, OpeningAccepts, Leads}
+use Rattle.opening.specs.OpeningLaws.{OpeningRefusals, OpeningsDiffer, OpeningLaws}
+use Rattle.opening.proofs.Opened.{key-and-iv}
+
+refuses : OpeningRefusals
+refuses key iv =
+    refuses-exactly (openingTests key iv) (openingLines key iv) (openedState key iv) blank tt (key-length-decides key, λ t1. (iv-length-decides iv, λ t2. tt))
+
+module _ (key iv : List ℕ) (o : OpeningAccepts key iv) where
+  opened-state : opened key iv .state ≡ openedState key iv
+  opened-state = rw (o .opens)
+
+  opened-leads : Leads key iv (opened key iv .state)
+  opened-leads = subst (Leads key iv) (sym opened-state) (record { opening = o; size = refl; registers = refl })
+
+  opened-well-formed : WellFormed (opened key iv .state)
+  opened-well-formed = rw (o .opens, one-of (sizeMark key) 256 512 (size-of (key-and-iv o))) refl
+
+  opened-position : opened key iv .state .position ≡ 0
+  opened-position = rw (o .opens)
+
+openings-differ : OpeningsDiffer
+openings-differ key iv key′ iv′ o o′ z z′ differ n e = differ (loading-laws .registers-one-to-one-in-both key iv key′ iv′ (key-and-iv o) (key-and-iv o′) z z′ n e)
+
+pub opening-laws : OpeningLaws
+opening-laws =
+    record {
+      refuses = refuses;
+      opened-leads = opened-leads;
+      opened-well-formed = opened-well-formed;
+      opened-position = opened-position;
+      openings-differ = openings-differ;
+    }

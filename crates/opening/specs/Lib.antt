@@ -1,0 +1,3 @@
+-- The definitions that the contracts of opening cite, and its laws.
+pub mod Opening
+pub mod OpeningLaws

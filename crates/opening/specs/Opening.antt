@@ -1,0 +1,44 @@
+-- Document 01: opening a state from key and IV, and which key leads to a state.
+use mathlib.Core.Path.{_≡_}
+use mathlib.Core.List.{List, [], _∷_}
+use Prim.Native.Nat.{ℕ, _/_}
+use lib.ListN.{replicate}
+use Rattle.generator.specs.declared.State.{State}
+use Rattle.generator.specs.Registers.{registersOf, stateOf}
+use Rattle.loading.specs.Loading.{Bytes, sizeMark, registersAt}
+use Rattle.answers.specs.declared.Answer.{Answer}
+use Rattle.answers.specs.Numbers.{accepted}
+use Rattle.answers.specs.Tests.{Test, keyLengthTest, ivLengthTest, answer}
+use Rattle.answers.specs.Lines.{Line, keyLengthLine, ivLengthLine}
+
+-- "the blank state (all cells, registers, position and size mark 0)"
+abbrev pub blank : State
+blank = stateOf (record { cells = replicate 16 0; r1 = 0; r2 = 0 }) 0 0
+
+-- "S_0, at position 0 with size mark 8 × the key length in bytes"
+abbrev pub openedState : (key iv : List ℕ) → State
+openedState key iv = stateOf (registersAt key iv 0) (sizeMark key) 0
+
+-- "Opening tests 1, 2": as tests, and as lines of the table
+abbrev pub openingTests : (key iv : List ℕ) → List Test
+openingTests key iv = keyLengthTest key ∷ ivLengthTest iv ∷ []
+
+abbrev pub openingLines : (key iv : List ℕ) → List Line
+openingLines key iv = keyLengthLine key ∷ ivLengthLine iv ∷ []
+
+-- "A refused opening returns the blank state"
+abbrev pub opened : (key iv : List ℕ) → Answer
+opened key iv = answer (openingTests key iv) (openedState key iv) blank
+
+-- a key and an IV, strings of bytes, that opening accepts
+pub record OpeningAccepts (key iv : List ℕ) : Type 0 where
+  pub key-bytes : Bytes key
+  pub iv-bytes : Bytes iv
+  pub opens : opened key iv .number ≡ accepted
+
+-- document 01's "leads to": "For a key and IV that opening accepts", "Such a key with that IV leads to a state when the state's size mark is
+-- 8 × the key length in bytes and its registers are those of S_n for n = floor(position/8)."
+pub record Leads (key iv : List ℕ) (s : State) : Type 0 where
+  pub opening : OpeningAccepts key iv
+  pub size : s .size ≡ sizeMark key
+  pub registers : registersOf s ≡ registersAt key iv (s .position / 8)

@@ -1,0 +1,28 @@
+-- What is proved of opening: proofs/OpeningLaws.antt has `opening-laws : OpeningLaws`.
+use mathlib.Core.Path.{_≡_}
+use mathlib.Core.List.{List}
+use Prim.Native.Nat.{ℕ}
+use Rattle.generator.specs.declared.State.{State}
+use Rattle.loading.specs.Loading.{sizeMark, registersAt}
+use Rattle.answers.specs.Tests.{WellFormed}
+use Rattle.answers.specs.Lines.{RefusesExactly}
+use Rattle.opening.specs.Opening.{blank, openingLines, opened, OpeningAccepts, Leads}
+
+-- demand 1, of opening: for every key and IV of whatever length. It is lent nothing to write.
+abbrev pub OpeningRefusals : Type 0
+OpeningRefusals = (key iv : List ℕ) → RefusesExactly (opened key iv) (openingLines key iv) blank
+
+-- demand 3: "For every number of steps, two accepted 256-bit openings that differ in key or IV hold different registers once each has taken that
+-- many."
+abbrev pub OpeningsDiffer : Type 0
+OpeningsDiffer =
+    (key iv key′ iv′ : List ℕ) → OpeningAccepts key iv → OpeningAccepts key′ iv′ → sizeMark key ≡ 256 → sizeMark key′ ≡ 256
+    → ((key ≡ key′) × (iv ≡ iv′) → ⊥) → (n : ℕ) → registersAt key iv n ≡ registersAt key′ iv′ n → ⊥
+
+pub record OpeningLaws : Type 0 where
+  pub refuses : OpeningRefusals
+  -- a key leads to the state that it opens, which is well-formed and stands at position 0
+  pub opened-leads : (key iv : List ℕ) → OpeningAccepts key iv → Leads key iv (opened key iv .state)
+  pub opened-well-formed : (key iv : List ℕ) → OpeningAccepts key iv → WellFormed (opened key iv .state)
+  pub opened-position : (key iv : List ℕ) → OpeningAccepts key iv → opened key iv .state .position ≡ 0
+  pub openings-differ : OpeningsDiffer

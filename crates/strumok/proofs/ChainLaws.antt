@@ -1,0 +1,91 @@
+-- The laws of chains of accepted calls that specs/ChainLaws.antt states.
+use mathlib.Core.Path.{_≡_, refl, sym, ap, _∙_, subst}
+use mathlib.Core.List.{List, [], _∷_}
+use Prim.Native.Nat.{ℕ, _+_, _≤_}
+use native.Mathlib.Omega.{arith}
+use lib.IntN.{ℤ, pos, _+ℤ_, +ℤ-idl, +ℤ-idr, +ℤ-assoc}
+use lib.ListN.{length, drop}
+use Rattle.generator.specs.declared.State.{State}
+use Rattle.answers.specs.declared.Answer.{Answer}
+use Rattle.answers.specs.Numbers.{accepted}
+use Rattle.answers.specs.Tests.{WellFormed}
+use Rattle.opening.specs.Opening.{Leads, opened}
+use Rattle.opening.proofs.OpeningLaws.{opening-laws}
+use Rattle.positions.specs.Positions.{movedTo}
+use Rattle.moving.specs.Moving.{moved}
+use Rattle.moving.proofs.Moves.{moves-to}
+use Rattle.moving.proofs.MovingLaws.{moving-laws}
+use Rattle.applying.specs.Applying.{applied}
+use Rattle.applying.specs.ApplyingLaws.{Restored}
+use Rattle.applying.proofs.AcceptedPortions.{accepted-portion}
+use Rattle.applying.proofs.ApplyingLaws.{applying-laws}
+use Rattle.strumok.specs.Chains.{Call, portion, window, move, check, answerTo, countOf, after, AllAccepted, total, Reached}
+use Rattle.strumok.specs.ChainLaws.{RestoredAfterMove, ChainLaws}
+
+-- ---- where a chain leads
+
+-- a state to which the key leads, well-formed, at position p
+record LedTo (key iv : List ℕ) (s : State) (p : ℤ) : Type 0 where
+  pub leads : Leads key iv s
+  pub well-formed : WellFormed s
+  pub position : pos (s .position) ≡ p
+
+module _ {key iv : List ℕ} where
+  answer-leads : (s : State) (c : Call) → Leads key iv s → WellFormed s → answerTo s c .number ≡ accepted → LedTo key iv (answerTo s c .state) (pos (s .position) +ℤ countOf c)
+  answer-leads s (portion source target) l w e =
+      let on = applying-laws .portion-leads key iv s l source target e in record { leads = on .leads; well-formed = on .well-formed; position = on .position }
+  answer-leads s (window buffer start count) l w e =
+      let on = applying-laws .window-leads key iv s l buffer start count e in record { leads = on .leads; well-formed = on .well-formed; position = on .position }
+  answer-leads s (move distance) l w e =
+      record { leads = moving-laws .moved-leads key iv s distance l e; well-formed = moving-laws .moved-well-formed s distance e; position = moving-laws .new-position s distance e }
+  answer-leads s (check iv′ target) l w e = record { leads = rw e l; well-formed = rw e w; position = rw e (sym (+ℤ-idr (pos (s .position)))) }
+
+  after-leads : (s : State) (calls : List Call) → Leads key iv s → WellFormed s → AllAccepted s calls → LedTo key iv (after s calls) (pos (s .position) +ℤ total calls)
+  after-leads s [] l w a = record { leads = l; well-formed = w; position = sym (+ℤ-idr (pos (s .position))) }
+  after-leads s (c ∷ calls) l w a =
+      let one = answer-leads s c l w (a .0) in
+      let rest = after-leads (answerTo s c .state) calls (one .leads) (one .well-formed) (a .1) in
+      record {
+        leads = rest .leads;
+        well-formed = rest .well-formed;
+        position = rest .position ∙ ap (λ (z : ℤ). z +ℤ total calls) (one .position) ∙ +ℤ-assoc (pos (s .position)) (countOf c) (total calls);
+      }
+
+module _ (key iv : List ℕ) (calls : List Call) (s : State) (r : Reached key iv calls s) where
+  chain : LedTo key iv (after (opened key iv .state) calls) (pos (opened key iv .state .position) +ℤ total calls)
+  chain =
+      after-leads (opened key iv .state) calls (opening-laws .opened-leads key iv (r .opening)) (opening-laws .opened-well-formed key iv (r .opening)) (r .accepts)
+
+  reached-leads : Leads key iv s
+  reached-leads = subst (Leads key iv) (sym (r .state)) (chain .leads)
+
+  reached-well-formed : WellFormed s
+  reached-well-formed = subst WellFormed (sym (r .state)) (chain .well-formed)
+
+  reached-position : pos (s .position) ≡ total calls
+  reached-position =
+      ap (λ (x : State). pos (x .position)) (r .state) ∙ chain .position
+      ∙ ap (λ (p : ℕ). pos p +ℤ total calls) (opening-laws .opened-position key iv (r .opening)) ∙ +ℤ-idl (total calls)
+
+-- ---- a portion restored
+
+restores-from-any-byte : (s : State) (xs target : List ℕ) (k : ℕ) (other : List ℕ) → applied s xs target .number ≡ accepted → k ≤ length xs → length (drop k xs) ≤ length other → RestoredAfterMove s xs target k other
+restores-from-any-byte s xs target k other e h fits =
+    let a = accepted-portion s xs target e in
+    let there : record { number = accepted; state = movedTo s (s .position + k) } ≡ moved s (pos k) = moves-to s (pos k) (a .well-formed) refl (omega (arith, a .room)) refl in
+    let restored = applying-laws .twice-restores s xs target k other e h fits in
+    let state : movedTo s (s .position + k) ≡ moved s (pos k) .state = ap (λ (x : Answer). x .state) there in
+    record {
+      move = ap (λ (x : Answer). x .number) (sym there);
+      portion = rw (← state) (restored .portion);
+      bytes = rw (← state) (restored .bytes);
+    }
+
+pub chain-laws : ChainLaws
+chain-laws =
+    record {
+      reached-leads = reached-leads;
+      reached-well-formed = reached-well-formed;
+      reached-position = reached-position;
+      restores-from-any-byte = restores-from-any-byte;
+    }

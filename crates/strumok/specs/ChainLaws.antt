@@ -1,0 +1,31 @@
+-- What is proved of chains of calls: proofs/ChainLaws.antt has `chain-laws : ChainLaws`.
+use mathlib.Core.Path.{_≡_}
+use mathlib.Core.List.{List, _++_}
+use Prim.Native.Nat.{ℕ, _≤_}
+use lib.IntN.{pos}
+use lib.ListN.{length, take, drop}
+use Rattle.generator.specs.declared.State.{State}
+use Rattle.answers.specs.Numbers.{accepted}
+use Rattle.answers.specs.Tests.{WellFormed}
+use Rattle.opening.specs.Opening.{Leads}
+use Rattle.moving.specs.Moving.{moved}
+use Rattle.applying.specs.Applying.{applied, appliedTarget}
+use Rattle.strumok.specs.Chains.{Call, total, Reached}
+
+-- what a portion wrote of xs, from its byte k on, applied again after a move there: into another target, the bytes of xs
+pub record RestoredAfterMove (s : State) (xs target : List ℕ) (k : ℕ) (other : List ℕ) : Type 0 where
+  pub move : moved s (pos k) .number ≡ accepted
+  pub portion : applied (moved s (pos k) .state) (drop k (take (length xs) (appliedTarget s xs target))) other .number ≡ accepted
+  pub bytes :
+      appliedTarget (moved s (pos k) .state) (drop k (take (length xs) (appliedTarget s xs target))) other
+      ≡ drop k xs ++ drop (length (drop k xs)) other
+
+pub record ChainLaws : Type 0 where
+  -- where a chain ends the key leads to the state, which is well-formed and stands at the sum of the counts
+  pub reached-leads : (key iv : List ℕ) (calls : List Call) (s : State) → Reached key iv calls s → Leads key iv s
+  pub reached-well-formed : (key iv : List ℕ) (calls : List Call) (s : State) → Reached key iv calls s → WellFormed s
+  pub reached-position : (key iv : List ℕ) (calls : List Call) (s : State) → Reached key iv calls s → pos (s .position) ≡ total calls
+  -- what was applied is restored from any byte of it: a move there, and a portion over what was written from there on
+  pub restores-from-any-byte :
+      (s : State) (xs target : List ℕ) (k : ℕ) (other : List ℕ) → applied s xs target .number ≡ accepted → k ≤ length xs → length (drop k xs) ≤ length other
+      → RestoredAfterMove s xs target k other
