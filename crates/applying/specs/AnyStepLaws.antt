@@ -6,7 +6,8 @@ use Prim.Native.Nat.{ℕ}
 use Rattle.generator.specs.declared.State.{State}
 use Rattle.generator.specs.declared.Kind.the-variants.{Ordinary}
 use Rattle.generator.specs.Registers.{Registers}
-use Rattle.generator.specs.Functions.{stepTables, nextIn}
+use Rattle.substitution.specs.Substitution.{stepTables}
+use Rattle.generator.specs.Functions.{nextIn}
 use Rattle.applying.specs.Applying.{applied, appliedTarget, windowed, windowedBuffer}
 use Rattle.applying.specs.AnyStep.{appliedBy, appliedTargetBy, windowedBy, windowedBufferBy}
 

@@ -15,7 +15,7 @@ use generator::State;
 use generator::backward;
 use loading::load_cells;
 use loading::recover_key;
-use substitution::pi_inverse_tables;
+use sboxes::pi_inverse_tables;
 
 // 2, 3, 4 or 9, in this order, for a key target of len bytes; else 0.
 fn checking_number(s: State, iv: &[u8], len: usize) -> u64

@@ -1,8 +1,6 @@
 // The eight tables of T, those of the inverse of M, and the ten of a step, by value: hold them in a local and lend them.
 ghost use mathlib.Core.Path.{_≡_};
-ghost use mathlib.Core.List.{[], _∷_, _++_};
-ghost use Rattle.galois.specs.Alpha.{alphaTable, alphaInverseTable};
-ghost use Rattle.substitution.specs.Substitution.{substitutionTables, matrixInverseTables};
+ghost use Rattle.substitution.specs.Substitution.{substitutionTables, matrixInverseTables, stepTables};
 use galois::alpha_inverse_table;
 use galois::alpha_table;
 
@@ -24,7 +22,7 @@ pub fn matrix_inverse_tables() -> [[u64; 256]; 8]
 
 // The ten tables of a step: the eight of T, then that of α, then that of its inverse.
 pub fn step_tables() -> [[u64; 256]; 10]
-    ensures { λ r. ⌜ r ≡ substitutionTables ++ (alphaTable ∷ alphaInverseTable ∷ []) ⌝ }
+    ensures { λ r. ⌜ r ≡ stepTables ⌝ }
 {
     let t = substitution_tables();
     [

@@ -1,15 +1,11 @@
-// Bytes and words, the byte field, and the products of a word with α and its inverse, by rule and by table.
+// Bytes and words, the byte field, the tables of α and of its inverse, and the products of a word with them by table.
 ghost use mathlib.Core.Path.{_≡_};
 ghost use Prim.Native.Nat.{_+_, _*_, _%_, _^_};
 ghost use Rattle.galois.specs.Words.{byte, at};
 ghost use Rattle.galois.specs.Field.{xtime, gmul};
-ghost use Rattle.galois.specs.Alpha.{scaled, alphaTable, alphaInverseTable, alphaTimesWith, alphaInverseTimesWith, alphaTimes, alphaInverseTimes};
+ghost use Rattle.galois.specs.Alpha.{alphaTable, alphaInverseTable, alphaTimesWith, alphaInverseTimesWith};
 
 mod tables;
-
-const ALPHA_ROW: u64 = 0xD73F04125E000004;
-
-const ALPHA_INVERSE_ROW: u64 = 0x47FCC6018A990000;
 
 // ---- bytes and words
 
@@ -58,33 +54,6 @@ pub fn product(a: u8, b: u8) -> u8
 }
 
 // ---- α
-
-// The word whose bytes are c times those of the row.
-fn scaled_row(row: u64, c: u8) -> u64
-    ensures { λ r. ⌜ r ≡ scaled row c ⌝ }
-{
-    let mut out: u64 = 0;
-    let mut j: u64 = 8;
-    while 0 < j {
-        j -= 1;
-        out = append_byte(out, product(byte_of(row, j), c));
-    }
-    out
-}
-
-// α times w, the table's entry worked out by its rule.
-pub fn alpha_times(w: u64) -> u64
-    ensures { λ r. ⌜ r ≡ alphaTimes w ⌝ }
-{
-    (w << 8) ^ scaled_row(ALPHA_ROW, byte_of(w, 7))
-}
-
-// α inverse times w, the table's entry worked out by its rule.
-pub fn alpha_inverse_times(w: u64) -> u64
-    ensures { λ r. ⌜ r ≡ alphaInverseTimes w ⌝ }
-{
-    (w >> 8) ^ scaled_row(ALPHA_INVERSE_ROW, byte_of(w, 0))
-}
 
 // The table of α, by value: hold it in a local and lend it.
 pub fn alpha_table() -> [u64; 256]

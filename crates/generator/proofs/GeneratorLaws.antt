@@ -5,13 +5,13 @@ use Prim.Native.Nat.{ℕ}
 use Rattle.galois.specs.Words.{at}
 use Rattle.galois.specs.Alpha.{alphaTable, alphaInverseTable, alphaTimesWith, alphaInverseTimesWith, alphaTimes, alphaInverseTimes}
 use Rattle.galois.proofs.AlphaLaws.{alpha-laws}
-use Rattle.substitution.specs.Pi.{piInverse}
-use Rattle.substitution.specs.Substitution.{columnTables, substitutionTables, matrixInverseTables, lookUp, lookUpThrough, substitute, substituteInverse}
+use Rattle.sboxes.specs.Sboxes.{piInverse}
+use Rattle.substitution.specs.Substitution.{columnTables, substitutionTables, matrixInverseTables, stepTables, lookUp, lookUpThrough, substitute, substituteInverse}
 use Rattle.substitution.proofs.SubstitutionLaws.{substitution-laws}
 use Rattle.generator.specs.declared.State.{State}
 use Rattle.generator.specs.declared.Kind.{Kind}
 use Rattle.generator.specs.Registers.{Registers, nextWith, previousWith, next, previous, walked}
-use Rattle.generator.specs.Functions.{nextBy, previousBy, stepTables, nextIn}
+use Rattle.generator.specs.Functions.{nextBy, previousBy, nextIn}
 use Rattle.generator.specs.GeneratorLaws.{UndoneBy, GeneratorLaws}
 use Rattle.generator.proofs.Round as Round
 use Rattle.generator.proofs.Round.{Inverses}

@@ -3,11 +3,11 @@
 use mathlib.Core.Path.{_≡_}
 use Prim.Native.Nat.{ℕ, _+_}
 use Rattle.galois.specs.Alpha.{alphaTable, alphaInverseTable}
-use Rattle.substitution.specs.Pi.{piInverse}
-use Rattle.substitution.specs.Substitution.{substitutionTables, matrixInverseTables}
+use Rattle.sboxes.specs.Sboxes.{piInverse}
+use Rattle.substitution.specs.Substitution.{substitutionTables, matrixInverseTables, stepTables}
 use Rattle.generator.specs.declared.Kind.{Kind}
 use Rattle.generator.specs.Registers.{Registers, EighteenWords, next, previous, iterate}
-use Rattle.generator.specs.Functions.{nextBy, previousBy, stepTables, nextIn}
+use Rattle.generator.specs.Functions.{nextBy, previousBy, nextIn}
 
 -- f keeps eighteen words such, and g undoes it there
 pub record UndoneBy (g f : Registers → Registers) : Type 0 where

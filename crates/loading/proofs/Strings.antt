@@ -11,7 +11,7 @@ use lib.Seq.{ext-getD, getD-at}
 use Rattle.galois.specs.Words.{byte, tabulate, at}
 use Rattle.galois.proofs.Bytes.{tabulate-at, tabulate-length, byte-lt, byte-word, word-lt}
 use Rattle.galois.proofs.Spread.{tabulate-ext}
-use Rattle.loading.specs.Loading.{Bytes, wordOf}
+use Rattle.loading.specs.Loading.{Bytes, wordByte, wordOf}
 use Rattle.loading.specs.Recovery.{stringByte, stringOf}
 
 -- ---- the string from its end
@@ -60,14 +60,14 @@ bytes-from-end = reverse-lt (lit< tt)
 
 pub wordOf-lt : (l : List ℕ) → Bytes l → (i : ℕ) → wordOf l i < 2 ^ 64
 unfolding wordOf
-wordOf-lt l h i = word-lt 8 (λ j. at (reverse l) (8 * i + j)) (λ j. bytes-from-end l h (8 * i + j))
+wordOf-lt l h i = word-lt 8 (wordByte l i) (λ j. bytes-from-end l h _)
 
 -- byte k from the end is byte (k mod 8) of word floor(k/8)
 byte-of-word : (l : List ℕ) → Bytes l → (k : ℕ) → at (reverse l) k ≡ byte (wordOf l (k / 8)) (k % 8)
 unfolding wordOf
 byte-of-word l h k =
     let e : 8 * (k / 8) + k % 8 ≡ k = omega arith in
-    sym (byte-word 8 (λ j. at (reverse l) (8 * (k / 8) + j)) (λ j. bytes-from-end l h (8 * (k / 8) + j)) (k % 8) (omega arith) ∙ ap (at (reverse l)) e)
+    sym (byte-word 8 (wordByte l (k / 8)) (λ j. bytes-from-end l h _) (k % 8) (omega arith) ∙ ap (at (reverse l)) e)
 
 -- ---- the string of words
 

@@ -4,8 +4,8 @@ use Rattle.galois.specs.Field.{gmul}
 use Rattle.galois.specs.Alpha.{scaled, alphaRow, alphaInverseRow, alphaTable, alphaInverseTable, alphaTimes, alphaInverseTimes}
 use Rattle.galois.proofs.Spread.{spread, spread-is}
 use Rattle.galois.proofs.AlphaLaws.{scaled-linear}
-use Rattle.substitution.specs.Pi.{piInverse, through}
-use Rattle.substitution.specs.Matrix.{rowTimes, circulantTimes}
+use Rattle.sboxes.specs.Sboxes.{piInverse, through}
+use Rattle.matrix.specs.Matrix.{rowTimes, circulantTimes}
 use Rattle.substitution.specs.Substitution.{substitute, substituteInverse}
 use Rattle.generator.specs.Registers.{F, nextWith}
 use Rattle.loading.specs.Loading.{wordOf, loadedCells, load}

@@ -23,9 +23,13 @@ pub record KeyAndIv (key iv : List ℕ) : Type 0 where
   pub iv-length : length iv ≡ 32
 
 -- "Key bytes hold the highest word first (K3 or K7), each word most significant byte first; the IV likewise, IV3 first."
--- So a string read from its end has the bytes of word 0, then those of word 1, and so on, each word's byte 0 first.
+-- So a string read from its end has the bytes of word 0, then those of word 1, and so on, each word's byte 0 first. This is byte j of word i,
+abbrev pub wordByte : List ℕ → ℕ → ℕ → ℕ
+wordByte string i j = at (reverse string) (8 * i + j)
+
+-- and the word
 unfoldable pub wordOf : List ℕ → ℕ → ℕ
-wordOf string i = word 8 (λ j. at (reverse string) (8 * i + j))
+wordOf string i = word 8 (wordByte string i)
 
 -- "¬ flips all 64 bits."
 abbrev pub complement : ℕ → ℕ

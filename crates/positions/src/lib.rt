@@ -10,7 +10,7 @@ use generator::Kind;
 use generator::State;
 use generator::backward;
 use generator::forward;
-use substitution::pi_inverse_tables;
+use sboxes::pi_inverse_tables;
 
 // n ordinary steps, the tables taken once.
 fn walk_on(s: State, n: u64) -> State

@@ -1,7 +1,8 @@
 // The cipher's calls for C: each over a state of twenty words, with the number of its answer returned; and the tables that a caller may hold.
 ghost use mathlib.Core.Path.{_≡_};
 ghost use Rattle.generator.specs.declared.Kind.the-variants.{Ordinary};
-ghost use Rattle.generator.specs.Functions.{stepTables, nextIn};
+ghost use Rattle.substitution.specs.Substitution.{stepTables};
+ghost use Rattle.generator.specs.Functions.{nextIn};
 ghost use Rattle.opening.specs.Opening.{opened};
 ghost use Rattle.moving.specs.Moving.{moved};
 ghost use Rattle.applying.specs.Applying.{applied, appliedTarget, windowed, windowedBuffer};

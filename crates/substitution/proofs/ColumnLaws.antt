@@ -9,10 +9,10 @@ use Rattle.galois.proofs.Linear.{Linear}
 use Rattle.galois.proofs.Gmul.{gmul-linear}
 use Rattle.galois.proofs.Bytes.{tabulate-at, byte-lt, byte-word, word-ext, word-linear}
 use Rattle.galois.proofs.Spread.{tabulate-ext, spread, spread-is}
-use Rattle.substitution.specs.Matrix.{circulant, rowTimes, circulantTimes}
+use Rattle.matrix.specs.Matrix.{circulant, rowTimes, circulantTimes}
 use Rattle.substitution.specs.Substitution.{columnTimes, columnEntry, columnTables, lookUp}
-use Rattle.substitution.proofs.XorSum.{xorSum-ext, word-xorSum}
-use Rattle.substitution.proofs.MatrixLaws.{ByteRow, term-lt}
+use Rattle.matrix.proofs.XorSum.{xorSum-ext, word-xorSum}
+use Rattle.matrix.proofs.Circulant.{ByteRow, term-lt}
 
 module _ (row : List ℕ) (b : ByteRow row) (f : ℕ → ℕ → ℕ) (bytes : (j c : ℕ) → c < 256 → f j c < 256) where
   entry-at : (j c : ℕ) → j < 8 → c < 256 → at (getD (columnTables row f) j []) c ≡ columnEntry row f j c

@@ -1,11 +1,12 @@
--- T, its inverse, and T through eight tables.
-use mathlib.Core.List.{List, []}
+-- T, its inverse, T through eight tables, and the ten tables of a step.
+use mathlib.Core.List.{List, [], _∷_, _++_}
 use Prim.Native.Nat.{ℕ}
 use lib.ListN.{getD}
 use Rattle.galois.specs.Words.{byte, word, tabulate, at}
 use Rattle.galois.specs.Field.{gmul}
-use Rattle.substitution.specs.Pi.{pi, piInverse, sent, through}
-use Rattle.substitution.specs.Matrix.{xorSum, circulant, matrixRow, matrixInverseRow, circulantTimes}
+use Rattle.galois.specs.Alpha.{alphaTable, alphaInverseTable}
+use Rattle.sboxes.specs.Sboxes.{pi, piInverse, sent, through}
+use Rattle.matrix.specs.Matrix.{xorSum, circulant, matrixRow, matrixInverseRow, circulantTimes}
 
 -- "T: byte j of the word goes through π(j mod 4); then q = M·r in the byte field. .. Byte j of the result is q_j."
 unfoldable pub substitute : ℕ → ℕ
@@ -42,3 +43,7 @@ lookUp tables w = xorSum 8 (λ j. at (getD tables j []) (byte w j))
 -- the same of the tables of a matrix, and then each byte through its table: T inverted, where these are the tables of its two halves
 abbrev pub lookUpThrough : (columns bytes : List (List ℕ)) → ℕ → ℕ
 lookUpThrough columns bytes w = through bytes (lookUp columns w)
+
+-- the ten tables of a step in one: the eight of T, then that of α, then that of its inverse
+abbrev pub stepTables : List (List ℕ)
+stepTables = substitutionTables ++ (alphaTable ∷ alphaInverseTable ∷ [])

@@ -1,28 +1,11 @@
--- What is proved of π, M and T: proofs/SubstitutionLaws.antt has `substitution-laws : SubstitutionLaws`.
+-- What is proved of T: proofs/SubstitutionLaws.antt has `substitution-laws : SubstitutionLaws`.
 use mathlib.Core.Path.{_≡_}
-use mathlib.Core.List.{List, [], _∷_, map}
-use Prim.Native.Nat.{ℕ, _<_}
-use lib.ListN.{getD, take}
-use Rattle.galois.specs.Words.{at, UndoesWord}
-use Rattle.substitution.specs.Pi.{pi, piInverse}
-use Rattle.substitution.specs.Matrix.{matrixRow, matrixInverseRow, circulantTimes}
+use Prim.Native.Nat.{ℕ}
+use Rattle.galois.specs.Words.{UndoesWord}
+use Rattle.sboxes.specs.Sboxes.{piInverse}
 use Rattle.substitution.specs.Substitution.{substitute, substituteInverse, substitutionTables, matrixInverseTables, lookUp, lookUpThrough}
 
--- the table p sends each byte to a byte, and q sends that back
-abbrev pub UndoesByte : (q p : List ℕ) → Type 0
-UndoesByte q p = (c : ℕ) → c < 256 → (at p c < 256) × (at q (at p c) ≡ c)
-
 pub record SubstitutionLaws : Type 0 where
-  -- "They begin: π0 A8 43 5F 06, π1 CE BB EB 92, π2 93 D9 9A B5, π3 68 8D CA 4D."
-  pub pi-begins :
-      map (take 4) pi
-      ≡ (0xA8 ∷ 0x43 ∷ 0x5F ∷ 0x06 ∷ []) ∷ (0xCE ∷ 0xBB ∷ 0xEB ∷ 0x92 ∷ []) ∷ (0x93 ∷ 0xD9 ∷ 0x9A ∷ 0xB5 ∷ []) ∷ (0x68 ∷ 0x8D ∷ 0xCA ∷ 0x4D ∷ []) ∷ []
-  -- "each must be a permutation of 0..255": each has its inverse, on both sides
-  pub inverse-pi : (t : ℕ) → t < 4 → UndoesByte (getD piInverse t []) (getD pi t [])
-  pub pi-inverse : (t : ℕ) → t < 4 → UndoesByte (getD pi t []) (getD piInverse t [])
-  -- "The inverse matrix": on both sides
-  pub inverse-matrix : UndoesWord (circulantTimes matrixInverseRow) (circulantTimes matrixRow)
-  pub matrix-inverse : UndoesWord (circulantTimes matrixRow) (circulantTimes matrixInverseRow)
   -- T "inverted": on both sides
   pub inverse-substitute : UndoesWord substituteInverse substitute
   pub substitute-inverse : UndoesWord substitute substituteInverse

@@ -1,85 +1,12 @@
-// π, the matrix M and the substitution T: plainly, through eight tables, and inverted.
+// The substitution T: plainly, through eight tables, and inverted.
 ghost use mathlib.Core.Path.{_≡_};
-ghost use Prim.Native.Nat.{_<_};
-ghost use Rattle.substitution.specs.Pi.{pi, piInverse, through};
-ghost use Rattle.substitution.specs.Matrix.{matrixRow, matrixInverseRow, rowTimes, circulantTimes};
 ghost use Rattle.substitution.specs.Substitution.{substitute, substituteInverse, lookUp, lookUpThrough};
-
-mod tables;
-
-// ---- the constants, by value: hold one in a local and lend it
-
-// The four tables of π.
-pub fn pi_tables() -> [[u8; 256]; 4]
-    ensures { λ r. ⌜ r ≡ pi ⌝ }
-{
-    tables::PI
-}
-
-// The four tables of the inverse of π.
-pub fn pi_inverse_tables() -> [[u8; 256]; 4]
-    ensures { λ r. ⌜ r ≡ piInverse ⌝ }
-{
-    tables::PI_INVERSE
-}
-
-// Row 0 of M.
-pub fn matrix_row() -> [u8; 8]
-    ensures { λ r. ⌜ r ≡ matrixRow ⌝ }
-{
-    tables::MATRIX_ROW
-}
-
-// Row 0 of the inverse of M.
-pub fn matrix_inverse_row() -> [u8; 8]
-    ensures { λ r. ⌜ r ≡ matrixInverseRow ⌝ }
-{
-    tables::MATRIX_INVERSE_ROW
-}
-
-// ---- the steps of T, each usable by itself
-
-// Each byte of w through its table: byte j through table j mod 4.
-pub fn through_tables(w: u64, tables: &[[u8; 256]; 4]) -> u64
-    ensures { λ r. ⌜ r ≡ through (now (tables .entry)) w ⌝ }
-{
-    let mut out: u64 = 0;
-    let mut j: usize = 8;
-    while 0 < j {
-        j -= 1;
-        out = galois::append_byte(out, tables[j % 4][galois::byte_of(w, j as u64) as usize]);
-    }
-    out
-}
-
-// Row i of the circulant matrix with this row 0, times the bytes of w.
-fn row_times(row: &[u8; 8], i: usize, w: u64) -> u8
-    requires { ⌜ i < 8 ⌝ }
-    ensures { λ r. ⌜ r ≡ rowTimes (now (row .entry)) i w ⌝ }
-{
-    let mut sum: u8 = 0;
-    let mut j: usize = 0;
-    while j < 8 {
-        sum = sum ^ galois::product(row[(8 + j - i) % 8], galois::byte_of(w, j as u64));
-        j += 1;
-    }
-    sum
-}
-
-// The circulant matrix with this row 0, times the bytes of w.
-pub fn circulant_times(row: &[u8; 8], w: u64) -> u64
-    ensures { λ r. ⌜ r ≡ circulantTimes (now (row .entry)) w ⌝ }
-{
-    let mut out: u64 = 0;
-    let mut i: usize = 8;
-    while 0 < i {
-        i -= 1;
-        out = galois::append_byte(out, row_times(row, i, w));
-    }
-    out
-}
-
-// ---- T
+use matrix::circulant_times;
+use matrix::matrix_inverse_row;
+use matrix::matrix_row;
+use sboxes::pi_inverse_tables;
+use sboxes::pi_tables;
+use sboxes::through_tables;
 
 // T plainly: π, then M in the byte field.
 pub fn substitute_word(w: u64) -> u64

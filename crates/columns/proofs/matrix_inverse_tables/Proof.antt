@@ -2,7 +2,7 @@
 -- 2,048 entries.
 use mathlib.Core.Path.{refl, _∙_}
 use Rattle.galois.specs.Field.{gmul}
-use Rattle.substitution.specs.Matrix.{matrixInverseRow}
+use Rattle.matrix.specs.Matrix.{matrixInverseRow}
 use Rattle.substitution.proofs.ColumnLaws.{spreadTables, spread-tables}
 use Rattle.columns.proofs.matrix_inverse_tables.Statement.{statement}
 use Rattle.columns.proofs.matrix_inverse_tables.Tie as tie

@@ -2,16 +2,17 @@
 -- 2,048 entries.
 use mathlib.Core.Path.{refl, _∙_}
 use Rattle.galois.specs.Field.{gmul}
-use Rattle.substitution.specs.Pi.{pi, piInverse, sent}
-use Rattle.substitution.specs.Matrix.{matrixRow}
-use Rattle.substitution.proofs.ThroughLaws.{sent-lt, inverse-pi}
+use Rattle.sboxes.specs.Sboxes.{pi, piInverse, sent}
+use Rattle.matrix.specs.Matrix.{matrixRow}
+use Rattle.sboxes.proofs.ThroughLaws.{sent-lt}
+use Rattle.sboxes.proofs.SboxLaws.{sbox-laws}
 use Rattle.substitution.proofs.ColumnLaws.{spreadTables, spread-tables}
 use Rattle.columns.proofs.substitution_tables.Statement.{statement}
 use Rattle.columns.proofs.substitution_tables.Tie as tie
 
 returns : tie.Need-returns
 unfolding gmul
-returns c = _∙_ {b = spreadTables matrixRow (sent pi)} refl (spread-tables matrixRow tt (sent pi) (sent-lt piInverse pi inverse-pi))
+returns c = _∙_ {b = spreadTables matrixRow (sent pi)} refl (spread-tables matrixRow tt (sent pi) (sent-lt piInverse pi (sbox-laws .inverse-pi)))
 
 pub substitution-tables-spec : {M : Type 1} → statement M
 substitution-tables-spec = tie.close (tie.spec returns)

@@ -1,15 +1,13 @@
 -- `loading::word_of` meets its contract: the bytes from j on are in place.
-use Prim.Native.Nat.{_+_, _*_, _<_}
-use mathlib.Core.List.{reverse}
+use Prim.Native.Nat.{_<_}
 use borrow.Author.Needs.{needs}
-use Rattle.galois.specs.Words.{at}
 use Rattle.galois.proofs.Built.{Built, built-start, built-more, built-end}
-use Rattle.loading.specs.Loading.{wordOf}
+use Rattle.loading.specs.Loading.{wordByte, wordOf}
 use Rattle.loading.proofs.word_of.Statement.{statement}
 use Rattle.loading.proofs.word_of.Tie as tie
 
 abbrev Inv-loop : tie.InvT-loop
-Inv-loop string i out₀ j₀ out j = Built (λ k. at (reverse string) (8 * i + k)) out j × (i < 8)
+Inv-loop string i out₀ j₀ out j = Built (wordByte string i) out j × (i < 8)
 
 abbrev μ-loop : tie.MeasureT-loop
 μ-loop string i out₀ j₀ out j = j

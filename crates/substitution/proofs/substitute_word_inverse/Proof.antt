@@ -3,8 +3,8 @@ use mathlib.Core.Path.{ap₂, ap, _∙_}
 use mathlib.Core.List.{List}
 use Prim.Native.Nat.{ℕ}
 use borrow.Author.Needs.{needs}
-use Rattle.substitution.specs.Pi.{through}
-use Rattle.substitution.specs.Matrix.{circulantTimes}
+use Rattle.sboxes.specs.Sboxes.{through}
+use Rattle.matrix.specs.Matrix.{circulantTimes}
 use Rattle.substitution.specs.Substitution.{substituteInverse}
 use Rattle.substitution.proofs.substitute_word_inverse.Statement.{statement}
 use Rattle.substitution.proofs.substitute_word_inverse.Tie as tie

@@ -1,6 +1,6 @@
 -- `substitution::substitute_word_inverse_by_tables` meets its contract: the inverse of M, then that of π.
 use mathlib.Core.Path.{ap, _∙_}
-use Rattle.substitution.specs.Pi.{through}
+use Rattle.sboxes.specs.Sboxes.{through}
 use borrow.Author.Needs.{needs}
 use Rattle.substitution.proofs.substitute_word_inverse_by_tables.Statement.{statement}
 use Rattle.substitution.proofs.substitute_word_inverse_by_tables.Tie as tie
