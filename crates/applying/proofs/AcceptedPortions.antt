@@ -8,8 +8,8 @@ use lib.ListN.{length, take, drop}
 use lib.Seq.{take-at, drop-at}
 use Rattle.generator.specs.declared.State.{State}
 use Rattle.generator.specs.Registers.{Registers, registersOf, keystreamWord}
-use Rattle.keystream.specs.Keystream.{byteAt, masked}
-use Rattle.keystream.proofs.Masked.{masked-length, masked-ext}
+use Rattle.masking.specs.Masking.{byteAt, masked}
+use Rattle.masking.proofs.Masked.{masked-length, masked-ext}
 use Rattle.answers.specs.Numbers.{limit, accepted}
 use Rattle.answers.specs.Tests.{targetTest, WellFormed}
 use Rattle.answers.proofs.Tests.{answer-accepted, written-accepted}

@@ -11,8 +11,8 @@ use lib.IntN.{pos}
 use lib.ListN.{length, take, drop, length-append, length-take, length-drop, take-append-drop}
 use lib.Seq.{drop-drop, drop-length}
 use Rattle.generator.specs.declared.State.{State}
-use Rattle.keystream.specs.Keystream.{masked}
-use Rattle.keystream.proofs.Masked.{masked-length, masked-append, masked-drop, masked-masked}
+use Rattle.masking.specs.Masking.{masked}
+use Rattle.masking.proofs.Masked.{masked-length, masked-append, masked-drop, masked-masked}
 use Rattle.answers.specs.declared.Answer.{Answer}
 use Rattle.answers.specs.Numbers.{accepted}
 use Rattle.answers.specs.Tests.{Test, targetTest, windowTest, newPosition, returned, WellFormed}

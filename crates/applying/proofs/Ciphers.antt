@@ -10,7 +10,7 @@ use lib.ListN.{length, take, drop, List·getD-append, length-append, length-take
 use lib.Seq.{length-take-le, getD-append-add, getD-take, getD-drop}
 use Rattle.galois.specs.Words.{at}
 use Rattle.generator.specs.declared.State.{State}
-use Rattle.keystream.proofs.Masked.{masked-length, masked-at}
+use Rattle.masking.proofs.Masked.{masked-length, masked-at}
 use Rattle.answers.specs.Numbers.{accepted}
 use Rattle.answers.specs.Tests.{Test, targetTest, windowTest}
 use Rattle.opening.specs.Opening.{Leads}

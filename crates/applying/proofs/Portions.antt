@@ -13,9 +13,9 @@ use lib.Seq.{take-length, take-at, drop-at, drop-drop}
 use Rattle.generator.specs.declared.State.{State}
 use Rattle.generator.specs.declared.Kind.the-variants.{Ordinary}
 use Rattle.generator.specs.Registers.{Registers, registersOf, next, keystreamWord, iterate, walked}
-use Rattle.keystream.specs.Keystream.{streamByte}
-use Rattle.keystream.proofs.Masked.{masked-ext}
-use Rattle.keystream.proofs.Stream.{byte-at-mod}
+use Rattle.keystream_words.specs.Keystream.{streamByte}
+use Rattle.masking.proofs.Masked.{masked-ext}
+use Rattle.masking.proofs.Words.{byte-at-mod}
 use Rattle.answers.specs.Tests.{Test, sizeMarkTest, positionTest, targetTest, windowTest, newPositionAboveTest, stateTests, returned, WellFormed, newPosition}
 use Rattle.answers.specs.Numbers.{limit, accepted, refusedNewPositionAbove}
 use Rattle.positions.specs.Positions.{movedTo}

@@ -5,7 +5,8 @@ use Prim.Native.Nat.{ℕ, _+_, _/_, _%_}
 use lib.ListN.{length, take, drop}
 use Rattle.generator.specs.declared.State.{State}
 use Rattle.generator.specs.Registers.{Registers, registersOf, stateOf, iterate}
-use Rattle.keystream.specs.Keystream.{streamByte, masked}
+use Rattle.masking.specs.Masking.{masked}
+use Rattle.keystream_words.specs.Keystream.{streamByte}
 use Rattle.answers.specs.declared.Answer.{Answer}
 use Rattle.answers.specs.Tests.{answer, written}
 use Rattle.applying.specs.Applying.{applyingTests, windowTests}

@@ -8,7 +8,7 @@ use lib.ListN.{length, take, drop}
 use Rattle.galois.specs.Words.{at}
 use Rattle.generator.specs.declared.State.{State}
 use Rattle.generator.specs.Registers.{registersOf, keystreamWord}
-use Rattle.keystream.specs.Keystream.{byteAt, masked}
+use Rattle.masking.specs.Masking.{byteAt, masked}
 use Rattle.loading.specs.Loading.{registersAt}
 use Rattle.answers.specs.declared.Answer.{Answer}
 use Rattle.answers.specs.Tests.{Test, stateTests, targetTest, windowTest, newPosition, newPositionAboveTest, answer, written}

@@ -12,10 +12,10 @@ use columns::matrix_inverse_tables;
 use galois::alpha_inverse_table;
 use generator::Kind;
 use generator::State;
-use generator::backward;
 use loading::load_cells;
 use loading::recover_key;
 use sboxes::pi_inverse_tables;
+use walks::backward;
 
 // 2, 3, 4 or 9, in this order, for a key target of len bytes; else 0.
 fn checking_number(s: State, iv: &[u8], len: usize) -> u64

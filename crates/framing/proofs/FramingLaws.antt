@@ -10,8 +10,8 @@ use lib.ListN.{length, take, drop, length-append, length-take}
 use lib.Seq.{take-length, drop-length}
 use Rattle.generator.specs.declared.State.{State}
 use Rattle.generator.proofs.Cells.{take-lt, drop-lt}
-use Rattle.keystream.specs.Keystream.{masked}
-use Rattle.keystream.proofs.Masked.{masked-append, masked-ext}
+use Rattle.masking.specs.Masking.{masked}
+use Rattle.masking.proofs.Masked.{masked-append, masked-ext}
 use Rattle.loading.specs.Loading.{Bytes}
 use Rattle.answers.specs.declared.Answer.{Answer}
 use Rattle.answers.specs.Numbers.{limit, accepted}

@@ -6,7 +6,7 @@ use lib.Dec.{ltb}
 use lib.ListN.{length, take, drop}
 use Rattle.galois.specs.Words.{at}
 use Rattle.generator.specs.declared.State.{State}
-use Rattle.keystream.specs.Keystream.{masked}
+use Rattle.masking.specs.Masking.{masked}
 use Rattle.answers.specs.declared.Answer.{Answer}
 use Rattle.answers.specs.Numbers.{limit}
 use Rattle.opening.specs.Opening.{opened}

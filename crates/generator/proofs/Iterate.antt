@@ -3,7 +3,6 @@ use mathlib.Core.Path.{_≡_, refl, sym, ap, _∙_}
 use Prim.Native.Nat.{ℕ, zero, suc, _+_}
 use native.Mathlib.Nat.{add-zero, add-suc}
 use Rattle.generator.specs.declared.State.{State}
-use Rattle.generator.specs.declared.Stepped.{Stepped}
 use Rattle.generator.specs.Registers.{Registers, EighteenWords, registersOf, withRegisters, iterate, walked}
 use Rattle.generator.specs.GeneratorLaws.{UndoneBy, OneToOne}
 
@@ -40,14 +39,6 @@ undone-one-to-one {g} {f} u a b wa wb e = sym (u .undone a wa) ∙ ap g e ∙ u 
 -- ---- walks of a state by the step f
 
 module _ (f : Registers → Registers) (s : State) where
-  -- k steps after i are j: in a loop of steps or of lines of steps, where a loop ends (k is 0), and of one walk after another
+  -- k steps after i are j
   pub walked-on : (i k j : ℕ) {t u : State} → t ≡ walked f i s → u ≡ walked f k t → i + k ≡ j → u ≡ walked f j s
   walked-on i k j et eu e = eu ∙ ap (walked f k) et ∙ ap (withRegisters s) (sym (iterate-add f i k (registersOf s))) ∙ ap (λ (n : ℕ). walked f n s) e
-
-  -- eight steps in a line
-  pub walked-eight : {a b c d e g h t : State} → a ≡ walked f 1 s → b ≡ walked f 1 a → c ≡ walked f 1 b → d ≡ walked f 1 c → e ≡ walked f 1 d → g ≡ walked f 1 e → h ≡ walked f 1 g → t ≡ walked f 1 h → t ≡ walked f 8 s
-  walked-eight ea eb ec ed ee eg eh et = rw (et, eh, eg, ee, ed, ec, eb, ea) refl
-
--- the state of a step
-pub stepped-state : {k : Stepped} {t : State} {word : ℕ} → k ≡ record { state = t; word = word } → k .state ≡ t
-stepped-state e = ap (λ (x : Stepped). x .state) e

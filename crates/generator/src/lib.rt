@@ -1,8 +1,4 @@
 // The state of the cipher, and one step of it forward and back, ordinary or of initialisation. Tables are lent.
-mod walks;
-
-pub use walks::backward;
-pub use walks::forward;
 ghost use mathlib.Core.Path.{_≡_};
 ghost use mathlib.Core.List.{[], _∷_, _++_};
 ghost use lib.ListN.{drop, take};

@@ -9,8 +9,8 @@ use answers::numbers;
 use columns::step_tables;
 use generator::Kind;
 use generator::State;
-use generator::forward;
 use loading::load_cells;
+use walks::forward;
 
 // All of it 0.
 fn blank_state() -> State

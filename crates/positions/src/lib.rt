@@ -8,9 +8,9 @@ use columns::step_tables;
 use galois::alpha_inverse_table;
 use generator::Kind;
 use generator::State;
-use generator::backward;
-use generator::forward;
 use sboxes::pi_inverse_tables;
+use walks::backward;
+use walks::forward;
 
 // n ordinary steps, the tables taken once.
 fn walk_on(s: State, n: u64) -> State

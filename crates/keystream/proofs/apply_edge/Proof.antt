@@ -1,14 +1,14 @@
 -- `keystream::apply_edge` meets its contract: nothing to do, or the step's word over the bytes, and the state after it where the word is used up.
 use native.Mathlib.Omega.{arith}
 use borrow.Author.Needs.{needs}
-use Rattle.keystream.proofs.Parts.{done-none, done-all, stepped-over, left-over}
+use Rattle.keystream_words.proofs.Parts.{none-done, all-done, stepped-over, left-over}
 use Rattle.keystream.proofs.apply_edge.Statement.{statement}
 use Rattle.keystream.proofs.apply_edge.Tie as tie
 
 returns : tie.Need-returns
 returns c =
     let a = c .before .before in
-    done-all _ (a .args .p) _ _ (done-none _ (a .args .p) (a .args .s) (a .args .buffer .now) (a .pre .0)) (omega (arith, c .if1 .taken))
+    all-done (none-done (a .pre .0)) (omega (arith, c .if1 .taken))
 
 returns-2 : tie.Need-returns-2
 returns-2 c =

@@ -3,7 +3,7 @@ use Prim.Native.Nat.{_-_, _%_}
 use native.Mathlib.Omega.{arith}
 use borrow.Author.Needs.{needs}
 use lib.ListN.{length}
-use Rattle.keystream.proofs.Parts.{done-none, done-part, done-all, done-length}
+use Rattle.keystream_words.proofs.Parts.{none-done, part-done, all-done, done-length}
 use Rattle.keystream.proofs.apply_from.Statement.{statement}
 use Rattle.keystream.proofs.apply_from.Tie as tie
 
@@ -15,10 +15,10 @@ returns-2 c =
     let start = else .before .before in
     let a = start .args in
     let n = length (a .buffer .now) in
-    let d0 = done-none _ (a .p) (a .s) (a .buffer .now) (start .pre) in
-    let d1 = done-part _ (a .p) _ _ d0 ((8 - a .p) % 8) (omega arith) (omega (arith, else)) (omega (arith, start .pre)) (w1 .apply-edge2 .ensures) in
-    let d2 = done-part _ (a .p) _ _ d1 n (omega (arith, else)) (omega arith) (omega (arith, start .pre)) (w2 .apply-aligned .ensures) in
-    done-all _ (a .p) _ _ d2 (omega (arith, done-length _ (a .p) _ _ d2))
+    let d0 = none-done {p = a .p} {s = a .s} {b = a .buffer .now} (start .pre) in
+    let d1 = part-done d0 ((8 - a .p) % 8) (omega arith) (omega (arith, else)) (omega (arith, start .pre)) (w1 .apply-edge2 .ensures) in
+    let d2 = part-done d1 n (omega (arith, else)) (omega arith) (omega (arith, start .pre)) (w2 .apply-aligned .ensures) in
+    all-done d2 (omega (arith, done-length d2))
 
 pub apply-from-spec : {M : Type 1} → statement M
 apply-from-spec =

@@ -1,3 +1,0 @@
--- The definitions that the contracts of keystream cite.
-pub mod Keystream
-pub mod Functions

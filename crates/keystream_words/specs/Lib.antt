@@ -1,0 +1,2 @@
+-- The definitions that the contracts of keystream_words and keystream cite.
+pub mod Keystream

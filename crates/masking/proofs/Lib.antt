@@ -1,0 +1,3 @@
+-- The proofs of masking.
+pub mod Masked
+pub mod Words

@@ -1,0 +1,2 @@
+-- The definitions that the contracts of masking cite.
+pub mod Masking

@@ -1,0 +1,3 @@
+-- The proofs of walks.
+pub mod Turns
+pub mod Lines

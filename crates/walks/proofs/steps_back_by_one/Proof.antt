@@ -1,0 +1,28 @@
+-- `walks::steps_back_by_one` meets its contract: each turn undoes a step.
+use Prim.Native.Nat.{_-_}
+use native.Mathlib.Nat.{one-mul}
+use native.Mathlib.Omega.{arith}
+use borrow.Author.Needs.{needs}
+use Rattle.generator.specs.Functions.{previousBy}
+use Rattle.walks.proofs.Turns.{Turns, turns-none, turns-more, turns-all}
+use Rattle.walks.proofs.steps_back_by_one.Statement.{statement}
+use Rattle.walks.proofs.steps_back_by_one.Tie as tie
+
+abbrev Inv-loop : tie.InvT-loop
+Inv-loop kind n columns bytes inverse t₀ i₀ t i = Turns (previousBy columns bytes inverse kind) 1 n t₀ i t
+
+abbrev μ-loop : tie.MeasureT-loop
+μ-loop kind n columns bytes inverse t₀ i₀ t i = n - i
+
+pub steps-back-by-one-spec : {M : Type 1} → statement M
+steps-back-by-one-spec =
+    tie.close
+    (tie.spec
+    Inv-loop
+    μ-loop
+    (λ c. turns-none)
+    (λ c κs. search needs)
+    (λ c. omega arith)
+    (λ c. omega arith)
+    (λ c. turns-more (c .before .before .loop .inv) (omega arith) (c .step-back .ensures))
+    (λ c. turns-all (c .before .loop .inv) (omega arith) (one-mul _)))

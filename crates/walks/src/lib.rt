@@ -1,0 +1,130 @@
+// Walks of n steps, forward and back. Ordinary steps go eight in a straight line. Tables are lent.
+ghost use mathlib.Core.Path.{_≡_};
+ghost use Prim.Native.Nat.{_*_};
+ghost use Rattle.generator.specs.declared.Kind.the-variants.{Ordinary};
+ghost use Rattle.generator.specs.Registers.{walked};
+ghost use Rattle.generator.specs.Functions.{nextIn, previousBy};
+use generator::Kind;
+use generator::State;
+use generator::step;
+use generator::step_back;
+
+// ---- ordinary steps, eight in a straight line
+
+// A line is of ordinary steps alone, so that none of them tests its kind.
+
+// n times eight ordinary steps.
+fn steps_by_eight(s: State, n: u64, tables: &[[u64; 256]; 10]) -> State
+    ensures { λ r. ⌜ r ≡ walked (nextIn (now (tables .entry)) Ordinary) (8 * n) s ⌝ }
+{
+    let mut t = s;
+    let mut lines: u64 = 0;
+    while lines < n {
+        lines += 1;
+        let a = step(Kind::Ordinary, t, tables);
+        let b = step(Kind::Ordinary, a.state, tables);
+        let c = step(Kind::Ordinary, b.state, tables);
+        let d = step(Kind::Ordinary, c.state, tables);
+        let e = step(Kind::Ordinary, d.state, tables);
+        let f = step(Kind::Ordinary, e.state, tables);
+        let g = step(Kind::Ordinary, f.state, tables);
+        let h = step(Kind::Ordinary, g.state, tables);
+        t = h.state;
+    }
+    t
+}
+
+// n times eight ordinary steps back.
+fn steps_back_by_eight(
+    s: State,
+    n: u64,
+    columns: &[[u64; 256]; 8],
+    bytes: &[[u8; 256]; 4],
+    inverse: &[u64; 256],
+) -> State
+    ensures { λ r. ⌜ r ≡ walked (previousBy (now (columns .entry)) (now (bytes .entry)) (now (inverse .entry)) Ordinary) (8 * n) s ⌝ }
+{
+    let mut t = s;
+    let mut lines: u64 = 0;
+    while lines < n {
+        lines += 1;
+        let a = step_back(Kind::Ordinary, t, columns, bytes, inverse);
+        let b = step_back(Kind::Ordinary, a, columns, bytes, inverse);
+        let c = step_back(Kind::Ordinary, b, columns, bytes, inverse);
+        let d = step_back(Kind::Ordinary, c, columns, bytes, inverse);
+        let e = step_back(Kind::Ordinary, d, columns, bytes, inverse);
+        let f = step_back(Kind::Ordinary, e, columns, bytes, inverse);
+        let g = step_back(Kind::Ordinary, f, columns, bytes, inverse);
+        t = step_back(Kind::Ordinary, g, columns, bytes, inverse);
+    }
+    t
+}
+
+// ---- walks
+
+// n steps, one by one.
+fn steps_by_one(kind: Kind, s: State, n: u64, tables: &[[u64; 256]; 10]) -> State
+    ensures { λ r. ⌜ r ≡ walked (nextIn (now (tables .entry)) kind) n s ⌝ }
+{
+    let mut t = s;
+    let mut taken: u64 = 0;
+    while taken < n {
+        let stepped = step(kind, t, tables);
+        t = stepped.state;
+        taken += 1;
+    }
+    t
+}
+
+// n steps: ordinary ones by eight as far as that goes.
+pub fn forward(kind: Kind, s: State, n: u64, tables: &[[u64; 256]; 10]) -> State
+    ensures { λ r. ⌜ r ≡ walked (nextIn (now (tables .entry)) kind) n s ⌝ }
+{
+    match kind {
+        Kind::Ordinary => {
+            let t = steps_by_eight(s, n / 8, tables);
+            steps_by_one(Kind::Ordinary, t, n % 8, tables)
+        }
+        Kind::Initial => steps_by_one(Kind::Initial, s, n, tables),
+    }
+}
+
+// n steps back, one by one.
+fn steps_back_by_one(
+    kind: Kind,
+    s: State,
+    n: u64,
+    columns: &[[u64; 256]; 8],
+    bytes: &[[u8; 256]; 4],
+    inverse: &[u64; 256],
+) -> State
+    ensures { λ r. ⌜ r ≡ walked (previousBy (now (columns .entry)) (now (bytes .entry)) (now (inverse .entry)) kind) n s ⌝ }
+{
+    let mut t = s;
+    let mut undone: u64 = 0;
+    while undone < n {
+        t = step_back(kind, t, columns, bytes, inverse);
+        undone += 1;
+    }
+    t
+}
+
+// n steps back: ordinary ones by eight as far as that goes.
+pub fn backward(
+    kind: Kind,
+    s: State,
+    n: u64,
+    columns: &[[u64; 256]; 8],
+    bytes: &[[u8; 256]; 4],
+    inverse: &[u64; 256],
+) -> State
+    ensures { λ r. ⌜ r ≡ walked (previousBy (now (columns .entry)) (now (bytes .entry)) (now (inverse .entry)) kind) n s ⌝ }
+{
+    match kind {
+        Kind::Ordinary => {
+            let t = steps_back_by_eight(s, n / 8, columns, bytes, inverse);
+            steps_back_by_one(Kind::Ordinary, t, n % 8, columns, bytes, inverse)
+        }
+        Kind::Initial => steps_back_by_one(Kind::Initial, s, n, columns, bytes, inverse),
+    }
+}
