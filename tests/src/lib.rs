@@ -5,10 +5,12 @@
 //! - [`cipher`]: registers, steps forward and back, loading, keystream words;
 //! - [`calls`]: the five calls with their refusals, and what the cipher program must write;
 //! - [`vectors`]: the published vectors, and the list that the program `vectors` prints;
+//! - [`edges`]: the lists of edges that the programs `edges` and `checks` print;
 //! - [`random`]: the seeded generator that makes the tests' inputs.
 
 pub mod calls;
 pub mod cipher;
+pub mod edges;
 pub mod field;
 pub mod random;
 pub mod vectors;

@@ -1,6 +1,6 @@
 //! The published vectors, run with the other implementation and with the proved library; the
-//! worked rows and the tables of the other implementation; and the list of the program `vectors`,
-//! compared with the proved program's.
+//! worked rows and the tables of the other implementation; and the lists of the programs
+//! `vectors`, `edges` and `checks`, compared with those of the proved programs.
 
 use std::path::Path;
 use std::process::Command;
@@ -117,16 +117,25 @@ fn tables_follow_their_rules() {
     }
 }
 
-#[test]
-fn the_proved_program_prints_the_same_list() {
-    let path = Path::new(env!("CARGO_MANIFEST_DIR")).join("../crates/vectors/stdout");
+/// The other implementation's program prints what the proved crate's file `stdout` holds, and as
+/// many lines.
+fn prints_the_same_list(program: &str, name: &str, lines: usize) {
+    let crates = Path::new(env!("CARGO_MANIFEST_DIR")).join("../crates");
+    let path = crates.join(name).join("stdout");
     let proved = std::fs::read_to_string(&path)
         .unwrap_or_else(|error| panic!("the proved program's list, {}: {error}", path.display()));
-    let run = Command::new(env!("CARGO_BIN_EXE_vectors")).output();
-    let ours = String::from_utf8(run.expect("the program vectors runs").stdout).unwrap();
+    let run = Command::new(program).output();
+    let ours = String::from_utf8(run.expect("the program runs").stdout).unwrap();
     for (i, (ours, proved)) in ours.lines().zip(proved.lines()).enumerate() {
         assert_eq!(ours, proved, "line {} of {}", i + 1, path.display());
     }
     assert_eq!(ours, proved, "the list and {}", path.display());
-    assert_eq!(ours.lines().count(), 8 + 6 + 2 * 15);
+    assert_eq!(ours.lines().count(), lines);
+}
+
+#[test]
+fn the_proved_programs_print_the_same_lists() {
+    prints_the_same_list(env!("CARGO_BIN_EXE_vectors"), "vectors", 8);
+    prints_the_same_list(env!("CARGO_BIN_EXE_edges"), "edges", 6 + 2 * 10);
+    prints_the_same_list(env!("CARGO_BIN_EXE_checks"), "checks", 2 * 7);
 }

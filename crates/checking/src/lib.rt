@@ -8,12 +8,12 @@ use answers::Answer;
 use answers::numbers;
 use answers::refused;
 use answers::state_number;
+use cells::load_cells;
 use columns::matrix_inverse_tables;
 use galois::alpha_inverse_table;
 use generator::Kind;
 use generator::State;
-use loading::load_cells;
-use loading::recover_key;
+use recovering::recover_key;
 use sboxes::pi_inverse_tables;
 use walks::backward;
 

@@ -1,7 +1,5 @@
 -- The proofs of loading's laws; a folder has the proof of the function it is named after.
 pub mod Strings
-pub mod Filled
-pub mod Loaded
 pub mod Rows
 pub mod Recovered
 pub mod LoadingLaws

@@ -6,10 +6,10 @@ ghost use Rattle.answers.specs.Tests.{returned};
 ghost use Rattle.opening.specs.Opening.{blank, openingTests, opened};
 use answers::Answer;
 use answers::numbers;
+use cells::load_cells;
 use columns::step_tables;
 use generator::Kind;
 use generator::State;
-use loading::load_cells;
 use walks::forward;
 
 // All of it 0.

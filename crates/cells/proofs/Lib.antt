@@ -1,0 +1,2 @@
+-- Lemmas of cells; a folder has the proof of the function it is named after.
+pub mod Loaded

@@ -1,0 +1,3 @@
+-- Lemmas of recovering; a folder has the proof of the function it is named after.
+pub mod Filled
+pub mod KeyWords

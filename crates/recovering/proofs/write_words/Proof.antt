@@ -1,0 +1,56 @@
+-- `recovering::write_words` meets its contract: after p turns the first p bytes are those of the string.
+use mathlib.Core.Path.{_≡_, refl, ap, _∙_}
+use Prim.Native.Nat.{ℕ, _+_, _-_, _/_, _%_, _≤_}
+use native.Mathlib.Omega.{arith}
+use borrow.Author.Needs.{needs}
+use lib.ListN.{length}
+use Rattle.galois.specs.Words.{byte, at}
+use Rattle.recovering.proofs.Filled.{filled, filled-more, filled-all, filled-length}
+use Rattle.recovering.proofs.write_words.Statement.{statement}
+use Rattle.recovering.proofs.write_words.Tie as tie
+
+abbrev Inv-loop : tie.InvT-loop
+Inv-loop words string₀ n p₀ string p = (string ≡ filled (at words) string₀ p) × ((p ≤ length string₀) × (length string ≡ length string₀))
+
+abbrev μ-loop : tie.MeasureT-loop
+μ-loop words string₀ n p₀ string p = n - p
+
+loop-holds : tie.Need-loop-holds Inv-loop μ-loop
+loop-holds c = (refl, (omega arith, refl))
+
+loop-again : tie.Need-loop-again Inv-loop μ-loop
+loop-again c =
+    let w = c .before .before in
+    let l = w .before .loop in
+    let a = w .before .before .before .args in
+    let b = a .string .now in
+    let q = length b - 1 - l .p in
+    let word : c .before .word-at .result ≡ at (a .words) _ = c .before .word-at .ensures in
+    let written : c .byte-of .result ≡ byte (c .before .word-at .result) (q % 8) = c .byte-of .ensures in
+    let more = filled-more (at (a .words)) b (l .p) (omega (arith, w, l .inv)) (l .inv .0) (written ∙ ap (λ (x : ℕ). byte x (q % 8)) word) in
+    let low : l .p + 1 ≤ length b = omega (arith, w, l .inv) in
+    (more, (low, ap length more ∙ filled-length (at (a .words)) b (l .p + 1) low))
+
+returns : tie.Need-returns Inv-loop μ-loop
+returns c =
+    let l = c .before .loop in
+    let a = c .before .before .before .args in
+    l .inv .0 ∙ filled-all (at (a .words)) (a .string .now) (l .p) (omega (arith, c, l .inv))
+
+pub write-words-spec : {M : Type 1} → statement M
+write-words-spec =
+    tie.close
+    (tie.spec
+    Inv-loop
+    μ-loop
+    loop-holds
+    (λ c. omega (arith, c))
+    (λ c. omega (arith, c))
+    (λ c κs. search needs)
+    (λ c κs. search needs)
+    (λ c. omega (arith, c .before .before, c .before .before .before .loop .inv))
+    (λ c. search needs)
+    (λ c. omega (arith, c .before .before))
+    loop-again
+    (λ c. c .before .loop .inv .1 .1)
+    returns)
