@@ -68,7 +68,7 @@ module _ {t tInverse alpha alphaInverse : ℕ → ℕ} (u : Inverses t tInverse 
       record {
         sixteen = simp (length-append, length-drop) (omega (arith, w .sixteen));
         cell-lt = append-lt word-pos (drop 1 (r .cells)) (last ∷ []) (drop-lt 1 (r .cells) (w .cell-lt)) (cons-lt word-pos last [] last-lt (λ j. word-pos));
-        r1-lt = mod-lt (r .r2 + cell r 13) word-pos;
+        r1-lt = mod-lt _ word-pos;
         r2-lt = u .inverse-t (r .r1) (w .r1-lt) .0;
       }
 

@@ -1,3 +1,5 @@
 -- The proofs of keystream_words.
 pub mod Stream
 pub mod Parts
+pub mod Lines
+pub mod Strides

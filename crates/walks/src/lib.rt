@@ -11,7 +11,23 @@ use generator::step_back;
 
 // ---- ordinary steps, eight in a straight line
 
-// A line is of ordinary steps alone, so that none of them tests its kind.
+// Each function here is called in one place alone, so that the compiler makes one straight line of eight steps of it; its steps are ordinary, so
+// that none of them tests its kind.
+
+// Eight ordinary steps.
+fn eight_steps(s: State, tables: &[[u64; 256]; 10]) -> State
+    ensures { λ r. ⌜ r ≡ walked (nextIn (now (tables .entry)) Ordinary) 8 s ⌝ }
+{
+    let a = step(Kind::Ordinary, s, tables);
+    let b = step(Kind::Ordinary, a.state, tables);
+    let c = step(Kind::Ordinary, b.state, tables);
+    let d = step(Kind::Ordinary, c.state, tables);
+    let e = step(Kind::Ordinary, d.state, tables);
+    let f = step(Kind::Ordinary, e.state, tables);
+    let g = step(Kind::Ordinary, f.state, tables);
+    let h = step(Kind::Ordinary, g.state, tables);
+    h.state
+}
 
 // n times eight ordinary steps.
 fn steps_by_eight(s: State, n: u64, tables: &[[u64; 256]; 10]) -> State
@@ -20,18 +36,29 @@ fn steps_by_eight(s: State, n: u64, tables: &[[u64; 256]; 10]) -> State
     let mut t = s;
     let mut lines: u64 = 0;
     while lines < n {
+        t = eight_steps(t, tables);
         lines += 1;
-        let a = step(Kind::Ordinary, t, tables);
-        let b = step(Kind::Ordinary, a.state, tables);
-        let c = step(Kind::Ordinary, b.state, tables);
-        let d = step(Kind::Ordinary, c.state, tables);
-        let e = step(Kind::Ordinary, d.state, tables);
-        let f = step(Kind::Ordinary, e.state, tables);
-        let g = step(Kind::Ordinary, f.state, tables);
-        let h = step(Kind::Ordinary, g.state, tables);
-        t = h.state;
     }
     t
+}
+
+// Eight ordinary steps back.
+fn eight_steps_back(
+    s: State,
+    columns: &[[u64; 256]; 8],
+    bytes: &[[u8; 256]; 4],
+    inverse: &[u64; 256],
+) -> State
+    ensures { λ r. ⌜ r ≡ walked (previousBy (now (columns .entry)) (now (bytes .entry)) (now (inverse .entry)) Ordinary) 8 s ⌝ }
+{
+    let a = step_back(Kind::Ordinary, s, columns, bytes, inverse);
+    let b = step_back(Kind::Ordinary, a, columns, bytes, inverse);
+    let c = step_back(Kind::Ordinary, b, columns, bytes, inverse);
+    let d = step_back(Kind::Ordinary, c, columns, bytes, inverse);
+    let e = step_back(Kind::Ordinary, d, columns, bytes, inverse);
+    let f = step_back(Kind::Ordinary, e, columns, bytes, inverse);
+    let g = step_back(Kind::Ordinary, f, columns, bytes, inverse);
+    step_back(Kind::Ordinary, g, columns, bytes, inverse)
 }
 
 // n times eight ordinary steps back.
@@ -47,15 +74,8 @@ fn steps_back_by_eight(
     let mut t = s;
     let mut lines: u64 = 0;
     while lines < n {
+        t = eight_steps_back(t, columns, bytes, inverse);
         lines += 1;
-        let a = step_back(Kind::Ordinary, t, columns, bytes, inverse);
-        let b = step_back(Kind::Ordinary, a, columns, bytes, inverse);
-        let c = step_back(Kind::Ordinary, b, columns, bytes, inverse);
-        let d = step_back(Kind::Ordinary, c, columns, bytes, inverse);
-        let e = step_back(Kind::Ordinary, d, columns, bytes, inverse);
-        let f = step_back(Kind::Ordinary, e, columns, bytes, inverse);
-        let g = step_back(Kind::Ordinary, f, columns, bytes, inverse);
-        t = step_back(Kind::Ordinary, g, columns, bytes, inverse);
     }
     t
 }

@@ -2,7 +2,8 @@
 use mathlib.Core.Path.{refl}
 use native.Mathlib.Omega.{arith}
 use borrow.Author.Needs.{needs}
-use Rattle.keystream_words.proofs.Parts.{none-done, all-done, done-length, eight-words, over-length}
+use Rattle.keystream_words.proofs.Parts.{none-done, all-done, done-length, over-length}
+use Rattle.keystream_words.proofs.Lines.{eight-words}
 use Rattle.keystream_words.proofs.apply_sixteen.Statement.{statement}
 use Rattle.keystream_words.proofs.apply_sixteen.Tie as tie
 
