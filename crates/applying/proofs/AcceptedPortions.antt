@@ -17,7 +17,7 @@ use Rattle.opening.specs.Opening.{Leads}
 use Rattle.positions.specs.Positions.{movedTo}
 use Rattle.positions.proofs.PositionLaws.{position-laws}
 use Rattle.applying.specs.Applying.{keystreamByte, keystreamByteOf, withKeystream, applyingTests, applied, appliedTarget}
-use Rattle.applying.proofs.Portions.{Advances, advances, accepts}
+use Rattle.applying.proofs.Portions.{Advances, accepted-advances, accepts}
 
 -- ---- the keystream of a state
 
@@ -38,14 +38,14 @@ with-keystream-on s n xs =
 -- ---- accepted portions
 
 -- a portion is accepted exactly when this holds
-abbrev pub Portion : State → (n len : ℕ) → Type 0
-Portion s n len = Advances s (targetTest n len) n
+abbrev pub PortionFits : State → (n len : ℕ) → Type 0
+PortionFits s n len = Advances s (targetTest n len) n
 
 module _ (s : State) (xs target : List ℕ) where
-  pub accepted-portion : applied s xs target .number ≡ accepted → Portion s (length xs) (length target)
-  accepted-portion e = advances s (targetTest (length xs) (length target)) (length xs) tt e
+  pub accepted-portion : applied s xs target .number ≡ accepted → PortionFits s (length xs) (length target)
+  accepted-portion e = accepted-advances s (targetTest (length xs) (length target)) (length xs) tt e
 
-  module _ (a : Portion s (length xs) (length target)) where
+  module _ (a : PortionFits s (length xs) (length target)) where
     pub portion-answer : record { number = accepted; state = movedTo s (s .position + length xs) } ≡ applied s xs target
     portion-answer = answer-accepted (applyingTests s (length xs) (length target)) _ s (accepts s _ (length xs) a) refl
 
@@ -62,7 +62,7 @@ module _ (s : State) (xs target : List ℕ) where
     portion-back = ap (drop (length xs)) (sym portion-bytes) ∙ drop-at (withKeystream s xs) (drop (length xs) target) (length xs) (masked-length _ (s .position) xs)
 
 -- moved on within what is accepted, a state is ready for the rest
-pub later-portion : (s : State) (k m len : ℕ) → WellFormed s → s .position + k + m ≤ limit → m ≤ len → Portion (movedTo s (s .position + k)) m len
+pub later-portion : (s : State) (k m len : ℕ) → WellFormed s → s .position + k + m ≤ limit → m ≤ len → PortionFits (movedTo s (s .position + k)) m len
 later-portion s k m len ok room fits =
     record {
       well-formed = position-laws .moved-well-formed s (s .position + k) ok (omega arith);

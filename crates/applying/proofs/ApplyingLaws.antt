@@ -24,7 +24,7 @@ use Rattle.positions.proofs.PositionLaws.{position-laws}
 use Rattle.applying.specs.Applying.{keystreamByteOf, withKeystream, advancingTests, advancingLines, applyingTests, applyingLines, applied, appliedTarget, windowTests, windowLines, windowed, windowedBuffer}
 use Rattle.applying.specs.ApplyingLaws.{ApplyingRefusals, WindowRefusals, TwoPortions, Restored, ApplyingLaws}
 use Rattle.applying.proofs.Portions.{accepts}
-use Rattle.applying.proofs.AcceptedPortions.{Portion, keystream-of-key, with-keystream-on, accepted-portion, portion-answer, portion-bytes, portion-long, portion-front, portion-back, later-portion}
+use Rattle.applying.proofs.AcceptedPortions.{PortionFits, keystream-of-key, with-keystream-on, accepted-portion, portion-answer, portion-bytes, portion-long, portion-front, portion-back, later-portion}
 use Rattle.applying.proofs.Ciphers.{portion-ciphers, window-ciphers, portion-leads, window-leads}
 
 -- ---- refusals
@@ -70,9 +70,9 @@ module _ (s : State) (xs ys target : List ℕ) where
   portions-compose e =
       let a = accepted-portion s (xs ++ ys) target e in
       let long = portion-long s (xs ++ ys) target a in
-      let one : Portion s n (length target) = record { well-formed = a .well-formed; fits = le-ltb (length target) n (omega (arith, both-length, long)); room = omega (arith, a .room, both-length) } in
+      let one : PortionFits s n (length target) = record { well-formed = a .well-formed; fits = le-ltb (length target) n (omega (arith, both-length, long)); room = omega (arith, a .room, both-length) } in
       let t = movedTo s (s .position + n) in
-      let two : Portion t m (length rest) = later-portion s n m (length rest) (a .well-formed) (omega (arith, a .room, both-length)) (omega (arith, both-length, long, rest-length)) in
+      let two : PortionFits t m (length rest) = later-portion s n m (length rest) (a .well-formed) (omega (arith, a .room, both-length)) (omega (arith, both-length, long, rest-length)) in
       let state : applied s xs target .state ≡ t = ap (λ (x : Answer). x .state) (sym (portion-answer s xs target one)) in
       let end : movedTo t (t .position + m) ≡ movedTo s (s .position + length (xs ++ ys)) =
       ap (λ (p : ℕ). movedTo t (p + m)) (position-laws .position-moved s (s .position + n)) ∙ ap (movedTo t) (omega (arith, both-length)) ∙ position-laws .moved-on s (s .position + n) (s .position + length (xs ++ ys)) (omega arith) (omega (arith, both-length)) in
@@ -115,7 +115,7 @@ twice-restores s xs target k other e kn fits =
     ap (drop k) (portion-front s xs target a) ∙ masked-drop g (s .position) k xs in
     let zs = masked g (s .position + k) (drop k xs) in
     let long : length zs ≡ length (drop k xs) = masked-length g (s .position + k) (drop k xs) in
-    let again : Portion t (length zs) (length other) = later-portion s k (length zs) (length other) (a .well-formed) (omega (arith, a .room, left, long)) (omega (arith, long, fits)) in
+    let again : PortionFits t (length zs) (length other) = later-portion s k (length zs) (length other) (a .well-formed) (omega (arith, a .room, left, long)) (omega (arith, long, fits)) in
     record {
       portion = ap (λ (l : List ℕ). applied t l other .number) stretch ∙ ap (λ (x : Answer). x .number) (sym (portion-answer t zs other again));
       bytes =
@@ -158,7 +158,7 @@ module _ (s : State) (buffer : List ℕ) (start count : ℕ) (h : start + count 
 
 no-bytes : (s : State) (target : List ℕ) → WellFormed s → (applied s [] target ≡ record { number = accepted; state = s }) × (appliedTarget s [] target ≡ target)
 no-bytes s target ok =
-    let none : Portion s 0 (length target) =
+    let none : PortionFits s 0 (length target) =
     record { well-formed = ok; fits = le-ltb (length target) 0 (omega arith); room = omega (arith, position-le s ok) } in (
       sym (portion-answer s [] target none) ∙ ap (λ (x : State). record { number = accepted; state = x }) (ap (movedTo s) (add-zero (s .position)) ∙ position-laws .moved-here s),
       sym (portion-bytes s [] target none),

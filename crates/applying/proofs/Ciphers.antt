@@ -12,13 +12,13 @@ use Rattle.galois.specs.Words.{at}
 use Rattle.generator.specs.declared.State.{State}
 use Rattle.masking.proofs.Masked.{masked-length, masked-at}
 use Rattle.answers.specs.Numbers.{accepted}
-use Rattle.answers.specs.Tests.{Test, targetTest, windowTest}
+use Rattle.answers.specs.Tests.{Test, targetTest, windowTest, newPosition}
 use Rattle.opening.specs.Opening.{Leads}
 use Rattle.positions.specs.Positions.{movedTo}
+use Rattle.positions.specs.PositionLaws.{LedTo}
 use Rattle.positions.proofs.PositionLaws.{position-laws}
 use Rattle.applying.specs.Applying.{keystreamByte, keystreamByteOf, withKeystream, applied, appliedTarget, windowed, windowedBuffer, Ciphered}
-use Rattle.applying.specs.ApplyingLaws.{LedOn}
-use Rattle.applying.proofs.Portions.{Advances, advances, window-end}
+use Rattle.applying.proofs.Portions.{Advances, accepted-advances, window-end}
 use Rattle.applying.proofs.AcceptedPortions.{keystream-of-key, accepted-portion, portion-bytes, portion-long}
 
 -- ---- what is written
@@ -95,19 +95,19 @@ window-ciphers key iv s l buffer start count e =
 
 -- ---- where it leads
 
-led-on : {key iv : List ℕ} (s : State) (fit : Test) (n : ℕ) {t : State} → Leads key iv s → Advances s fit n → t ≡ movedTo s (s .position + n) → LedOn key iv s t n
+led-on : {key iv : List ℕ} (s : State) (fit : Test) (n : ℕ) {t : State} → Leads key iv s → Advances s fit n → t ≡ movedTo s (s .position + n) → LedTo key iv t (newPosition s (pos n))
 led-on {key} {iv} s fit n l a e =
-    subst (λ (t : State). LedOn key iv s t n) (sym e)
+    subst (λ (t : State). LedTo key iv t (newPosition s (pos n))) (sym e)
     (record {
-      leads = position-laws .moved-leads key iv s (s .position + n) l;
+      key-leads = position-laws .moved-leads key iv s (s .position + n) l;
       well-formed = position-laws .moved-well-formed s (s .position + n) (a .well-formed) (a .room);
       position = ap pos (position-laws .position-moved s (s .position + n));
     })
 
-pub portion-leads : (key iv : List ℕ) (s : State) → Leads key iv s → (source target : List ℕ) → applied s source target .number ≡ accepted → LedOn key iv s (applied s source target .state) (length source)
+pub portion-leads : (key iv : List ℕ) (s : State) → Leads key iv s → (source target : List ℕ) → applied s source target .number ≡ accepted → LedTo key iv (applied s source target .state) (newPosition s (pos (length source)))
 portion-leads key iv s l source target e =
-    led-on s (targetTest (length source) (length target)) (length source) l (advances s (targetTest (length source) (length target)) (length source) tt e) (rw e)
+    let fit = targetTest (length source) (length target) in led-on s fit (length source) l (accepted-advances s fit (length source) tt e) (rw e)
 
-pub window-leads : (key iv : List ℕ) (s : State) → Leads key iv s → (buffer : List ℕ) (start count : ℕ) → windowed s buffer start count .number ≡ accepted → LedOn key iv s (windowed s buffer start count .state) count
+pub window-leads : (key iv : List ℕ) (s : State) → Leads key iv s → (buffer : List ℕ) (start count : ℕ) → windowed s buffer start count .number ≡ accepted → LedTo key iv (windowed s buffer start count .state) (newPosition s (pos count))
 window-leads key iv s l buffer start count e =
-    led-on s (windowTest (length buffer) start count) count l (advances s (windowTest (length buffer) start count) count tt e) (rw e)
+    let fit = windowTest (length buffer) start count in led-on s fit count l (accepted-advances s fit count tt e) (rw e)

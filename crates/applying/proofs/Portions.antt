@@ -54,8 +54,8 @@ module _ (s : State) (fit : Test) (n : ℕ) where
     pub fits : fit .applies ≡ false
     pub room : s .position + n ≤ limit
 
-  pub advances : T (numbered (fit ∷ [])) → returned (advancingTests s fit n) ≡ accepted → Advances
-  advances k e =
+  pub accepted-advances : T (numbered (fit ∷ [])) → returned (advancingTests s fit n) ≡ accepted → Advances
+  accepted-advances k e =
       let size = returned-none (sizeMarkTest s) (positionTest s ∷ endTests) k e in
       let place = returned-none (positionTest s) endTests k (size .1) in
       let fit-none = returned-none fit (newPositionAboveTest (newPosition s (pos n)) ∷ []) k (place .1) in
@@ -101,7 +101,7 @@ advanced-is s n =
 
 module _ (s : State) (source target : List ℕ) (ok : returned (applyingTests s (length source) (length target)) ≡ accepted) where
   portion-advances : Advances s (targetTest (length source) (length target)) (length source)
-  portion-advances = advances s (targetTest (length source) (length target)) (length source) tt ok
+  portion-advances = accepted-advances s (targetTest (length source) (length target)) (length source) tt ok
 
   pub target-length : length source ≤ length target
   target-length = ltb-false (length target) (length source) (portion-advances .fits)
@@ -134,7 +134,7 @@ module _ (s : State) (source target : List ℕ) (ok : returned (applyingTests s 
 
 module _ (s : State) (buffer : List ℕ) (start count : ℕ) (ok : returned (windowTests s (length buffer) start count) ≡ accepted) where
   window-advances : Advances s (windowTest (length buffer) start count) count
-  window-advances = advances s (windowTest (length buffer) start count) count tt ok
+  window-advances = accepted-advances s (windowTest (length buffer) start count) count tt ok
 
   pub window-end : start + count ≤ length buffer
   window-end = ltb-false (length buffer) (start + count) (window-advances .fits)

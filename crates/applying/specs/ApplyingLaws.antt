@@ -3,14 +3,15 @@
 use mathlib.Core.Path.{_≡_}
 use mathlib.Core.List.{List, [], _++_}
 use Prim.Native.Nat.{ℕ, _+_, _≤_}
-use lib.IntN.{pos, _+ℤ_}
+use lib.IntN.{pos}
 use lib.ListN.{length, take, drop}
 use Rattle.generator.specs.declared.State.{State}
 use Rattle.answers.specs.Numbers.{accepted}
-use Rattle.answers.specs.Tests.{WellFormed}
+use Rattle.answers.specs.Tests.{newPosition, WellFormed}
 use Rattle.answers.specs.Lines.{RefusesExactly, WritesNothing}
 use Rattle.opening.specs.Opening.{Leads}
 use Rattle.positions.specs.Positions.{movedTo}
+use Rattle.positions.specs.PositionLaws.{LedTo}
 use Rattle.applying.specs.Applying.{keystreamByte, keystreamByteOf, applyingLines, applied, appliedTarget, windowLines, windowed, windowedBuffer, Ciphered}
 
 -- demand 1, of applying and of the window: for every state, source, target and buffer, every start and count
@@ -41,12 +42,6 @@ pub record Restored (s : State) (xs target : List ℕ) (k : ℕ) (other : List �
       appliedTarget (movedTo s (s .position + k)) (drop k (take (length xs) (appliedTarget s xs target))) other
       ≡ drop k xs ++ drop (length (drop k xs)) other
 
--- where a key leads to a state s that a call with n bytes leaves at t: it leads to t, which is well-formed and stands n bytes further on
-pub record LedOn (key iv : List ℕ) (s t : State) (n : ℕ) : Type 0 where
-  pub leads : Leads key iv t
-  pub well-formed : WellFormed t
-  pub position : pos (t .position) ≡ pos (s .position) +ℤ pos n
-
 pub record ApplyingLaws : Type 0 where
   pub applying-refuses : ApplyingRefusals
   pub window-refuses : WindowRefusals
@@ -61,10 +56,10 @@ pub record ApplyingLaws : Type 0 where
       → Ciphered key iv (s .position) count start (drop start buffer) buffer (windowedBuffer s buffer start count)
   pub portion-leads :
       (key iv : List ℕ) (s : State) → Leads key iv s → (source target : List ℕ) → applied s source target .number ≡ accepted
-      → LedOn key iv s (applied s source target .state) (length source)
+      → LedTo key iv (applied s source target .state) (newPosition s (pos (length source)))
   pub window-leads :
       (key iv : List ℕ) (s : State) → Leads key iv s → (buffer : List ℕ) (start count : ℕ) → windowed s buffer start count .number ≡ accepted
-      → LedOn key iv s (windowed s buffer start count .state) count
+      → LedTo key iv (windowed s buffer start count .state) (newPosition s (pos count))
   -- portions compose: n + m bytes in one call equal two calls, and one is accepted exactly when both are
   pub portions-compose : (s : State) (xs ys target : List ℕ) → applied s (xs ++ ys) target .number ≡ accepted → TwoPortions s xs ys target
   pub portions-join :

@@ -22,7 +22,7 @@ use Rattle.opening.specs.Opening.{Leads}
 use Rattle.opening.proofs.Opened.{key-of-size, both-fit, key-and-iv}
 use Rattle.checking.specs.Checking.{loadedOf, keyOf, loadsAgain, noKeyLeadsTest, noKeyLeadsLine, testsBefore10, linesBefore10, checkingTests, checkingLines, checked, checkedTarget}
 use Rattle.checking.specs.CheckingLaws.{CheckingRefusals, Stored, StoredChecked, CheckingLaws}
-use Rattle.checking.proofs.Checks.{Checkable, all-fit, checkable, registers-same, same-registers, decided}
+use Rattle.checking.proofs.Checks.{Checkable, all-fit, accepted-checkable, registers-same, same-registers, decided}
 
 -- ---- a key that leads to the state is found
 
@@ -94,7 +94,7 @@ module _ (s : State) (iv target : List ℕ) where
     checking-decided : DecideAll (checkingTests s iv (length target)) (checkingLines s iv (length target))
     checking-decided =
         decide-append (testsBefore10 s iv (length target)) (noKeyLeadsTest s iv ∷ []) (linesBefore10 s iv (length target)) (noKeyLeadsLine s iv ∷ []) decided-before-10
-        (λ passed. (decides-10 s iv words bytes (checkable s iv (length target) passed), λ t10. tt))
+        (λ passed. (decides-10 s iv words bytes (accepted-checkable s iv (length target) passed), λ t10. tt))
 
 -- ---- the demand
 
@@ -103,8 +103,8 @@ leads-accepted s iv target passed key l =
     let zero : checked s iv target .number ≡ accepted = decided s iv target passed (loads-again s iv key l) in
     (zero, rw zero (key-found s iv key l))
 
-stored : StoredChecked
-stored s iv target words bytes none =
+stored-checked : StoredChecked
+stored-checked s iv target words bytes none =
     record {
       accepts = λ key l. leads-accepted s iv target passed key l .0;
       accepts-only = accepts-only (loadsAgain s iv) refl;
@@ -117,7 +117,7 @@ stored s iv target words bytes none =
     passed = accepted-before-10 s iv target none
 
     led : loadsAgain s iv ≡ true → Leads (keyOf s iv) iv s
-    led = found-leads s iv words bytes (checkable s iv (length target) passed)
+    led = found-leads s iv words bytes (accepted-checkable s iv (length target) passed)
 
     accepts-only : (b : Bool) → loadsAgain s iv ≡ b → checked s iv target .number ≡ accepted → (key : List ℕ) × Leads key iv s
     accepts-only true e z = (keyOf s iv, led e)
@@ -141,4 +141,4 @@ refuses s iv target words bytes =
     )
 
 pub checking-laws : CheckingLaws
-checking-laws = record { refuses = refuses; stored = stored; unaltered = unaltered; leads-checked = leads-checked }
+checking-laws = record { refuses = refuses; stored-checked = stored-checked; unaltered = unaltered; leads-checked = leads-checked }

@@ -51,8 +51,8 @@ pub record Checkable (s : State) (iv : List ℕ) (len : ℕ) : Type 0 where
   pub size : (s .size ≡ 256) ⊎ (s .size ≡ 512)
   pub target-length : len ≡ s .size / 8
 
-pub checkable : (s : State) (iv : List ℕ) (len : ℕ) → returned (testsBefore10 s iv len) ≡ accepted → Checkable s iv len
-checkable s iv len e =
+pub accepted-checkable : (s : State) (iv : List ℕ) (len : ℕ) → returned (testsBefore10 s iv len) ≡ accepted → Checkable s iv len
+accepted-checkable s iv len e =
     let two = returned-none (ivLengthTest iv) (stateTests s ++ (keyTargetTest s len ∷ [])) tt e in
     let three = returned-none (sizeMarkTest s) (positionTest s ∷ keyTargetTest s len ∷ []) tt (two .1) in
     let four = returned-none (positionTest s) (keyTargetTest s len ∷ []) tt (three .1) in
@@ -146,7 +146,7 @@ module _ (s : State) (iv target : List ℕ) where
 
   module _ (passed : returned (testsBefore10 s iv (length target)) ≡ accepted) where
     fits : Checkable s iv (length target)
-    fits = checkable s iv (length target) passed
+    fits = accepted-checkable s iv (length target) passed
 
     pub target-le : length target ≤ 64
     target-le = key-le (key-of-size (fits .size) (fits .target-length) .0)

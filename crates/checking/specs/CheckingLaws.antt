@@ -35,7 +35,7 @@ StoredChecked = (s : State) (iv target : List ℕ) → EighteenWords (registersO
 
 pub record CheckingLaws : Type 0 where
   pub refuses : CheckingRefusals
-  pub stored : StoredChecked
+  pub stored-checked : StoredChecked
   -- the state comes back as it came, accepted or not
   pub unaltered : (s : State) (iv target : List ℕ) → checked s iv target .state ≡ s
   -- a well-formed state to which a key leads is accepted with its IV, and the key is handed back

@@ -13,7 +13,7 @@ use Rattle.answers.specs.Numbers.{limit, accepted}
 use Rattle.answers.specs.Tests.{windowTest}
 use Rattle.positions.specs.Positions.{movedTo}
 use Rattle.applying.specs.Applying.{windowed}
-use Rattle.applying.proofs.Portions.{advances}
+use Rattle.applying.proofs.Portions.{accepted-advances}
 use Rattle.positions.proofs.PositionLaws.{position-laws}
 
 pub front-length : (n : ℕ) (l : List ℕ) → n ≤ length l → n ≡ length (take n l)
@@ -50,7 +50,7 @@ module _ (s : State) (piece : List ℕ) where
     there = rw e (position-laws .position-moved s (s .position + n))
 
     room : s .position + n ≤ limit
-    room = advances s (windowTest n 0 n) n tt e .room
+    room = accepted-advances s (windowTest n 0 n) n tt e .room
 
   pub onward : {t : State} {more : Bool} → t ≡ after → (more ≡ true → windowed s piece 0 n .number ≡ accepted) → 0 < n → Onward (s .position) (t .position) more
   onward {more = more} same ok some =

@@ -28,8 +28,8 @@ record Ends (s : State) (distance : ℤ) : Type 0 where
   pub there : newPosition s distance ≡ pos to
   pub low : to ≤ limit
 
-ends : (s : State) (distance : ℤ) → moved s distance .number ≡ accepted → Ends s distance
-ends s d e =
+accepted-ends : (s : State) (distance : ℤ) → moved s distance .number ≡ accepted → Ends s distance
+accepted-ends s d e =
     let size = returned-none (sizeMarkTest s) (positionTest s ∷ endTests s d) tt e in
     let place = returned-none (positionTest s) (endTests s d) tt (size .1) in
     by (newPosition s d) refl (rw (size .0, place .0)) (place .1)
@@ -46,19 +46,19 @@ refuses s d =
     refuses-exactly (movingTests s d) (movingLines s d) _ s tt
     (state-decides s (new-position-above-decides (newPosition s d), λ t7. (new-position-below-decides (newPosition s d), λ t8. tt)))
 
-moved-state : (s : State) (distance : ℤ) (e : moved s distance .number ≡ accepted) → moved s distance .state ≡ movedTo s (ends s distance e .to)
-moved-state s d e = let end = ends s d e in ap (λ (a : Answer). a .state) (sym (moves-to s d (end .well-formed) (end .there) (end .low) refl))
+moved-state : (s : State) (distance : ℤ) (e : moved s distance .number ≡ accepted) → moved s distance .state ≡ movedTo s (accepted-ends s distance e .to)
+moved-state s d e = let end = accepted-ends s d e in ap (λ (a : Answer). a .state) (sym (moves-to s d (end .well-formed) (end .there) (end .low) refl))
 
 new-position : (s : State) (distance : ℤ) → moved s distance .number ≡ accepted → pos (moved s distance .state .position) ≡ newPosition s distance
 unfolding movedTo
-new-position s d e = ap (λ (t : State). pos (t .position)) (moved-state s d e) ∙ sym (ends s d e .there)
+new-position s d e = ap (λ (t : State). pos (t .position)) (moved-state s d e) ∙ sym (accepted-ends s d e .there)
 
 moved-well-formed : (s : State) (distance : ℤ) → moved s distance .number ≡ accepted → WellFormed (moved s distance .state)
-moved-well-formed s d e = let end = ends s d e in subst WellFormed (sym (moved-state s d e)) (position-laws .moved-well-formed s (end .to) (end .well-formed) (end .low))
+moved-well-formed s d e = let end = accepted-ends s d e in subst WellFormed (sym (moved-state s d e)) (position-laws .moved-well-formed s (end .to) (end .well-formed) (end .low))
 
 there-and-back : (s : State) (distance : ℤ) → EighteenWords (registersOf s) → moved s distance .number ≡ accepted → moved (moved s distance .state) (negℤ distance) ≡ record { number = accepted; state = s }
 there-and-back s d w e =
-    let end = ends s d e in
+    let end = accepted-ends s d e in
     let t = movedTo s (end .to) in
     let back : newPosition t (negℤ d) ≡ pos (s .position) =
     ap (λ (p : ℕ). pos p +ℤ negℤ d) (position-laws .position-moved s (end .to)) ∙ ap (λ (z : ℤ). z +ℤ negℤ d) (sym (end .there)) ∙ +ℤ-negℤ-cancel (pos (s .position)) d in
@@ -66,7 +66,7 @@ there-and-back s d w e =
     ∙ sym (moves-to t (negℤ d) (position-laws .moved-well-formed s (end .to) (end .well-formed) (end .low)) back (position-le s (end .well-formed)) (sym (position-laws .moved-moved s (end .to) (s .position) w ∙ position-laws .moved-here s)))
 
 moved-leads : (key iv : List ℕ) (s : State) (distance : ℤ) → Leads key iv s → moved s distance .number ≡ accepted → Leads key iv (moved s distance .state)
-moved-leads key iv s d l e = subst (Leads key iv) (sym (moved-state s d e)) (position-laws .moved-leads key iv s (ends s d e .to) l)
+moved-leads key iv s d l e = subst (Leads key iv) (sym (moved-state s d e)) (position-laws .moved-leads key iv s (accepted-ends s d e .to) l)
 
 pub moving-laws : MovingLaws
 moving-laws =

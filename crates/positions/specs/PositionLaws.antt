@@ -3,6 +3,7 @@
 use mathlib.Core.Path.{_≡_}
 use mathlib.Core.List.{List}
 use Prim.Native.Nat.{ℕ, _/_, _≤_}
+use lib.IntN.{ℤ, pos}
 use Rattle.generator.specs.declared.State.{State}
 use Rattle.generator.specs.Registers.{EighteenWords, registersOf}
 use Rattle.loading.specs.Loading.{registersAt}
@@ -10,6 +11,12 @@ use Rattle.answers.specs.Numbers.{limit}
 use Rattle.answers.specs.Tests.{WellFormed}
 use Rattle.opening.specs.Opening.{opened, OpeningAccepts, Leads}
 use Rattle.positions.specs.Positions.{movedTo}
+
+-- a state to which a key leads, well-formed, at position p: where a call that is accepted leaves it
+pub record LedTo (key iv : List ℕ) (t : State) (p : ℤ) : Type 0 where
+  pub key-leads : Leads key iv t
+  pub well-formed : WellFormed t
+  pub position : pos (t .position) ≡ p
 
 pub record PositionLaws : Type 0 where
   pub position-moved : (s : State) (to : ℕ) → movedTo s to .position ≡ to

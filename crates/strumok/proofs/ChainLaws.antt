@@ -12,6 +12,7 @@ use Rattle.answers.specs.Tests.{WellFormed}
 use Rattle.opening.specs.Opening.{Leads, opened}
 use Rattle.opening.proofs.OpeningLaws.{opening-laws}
 use Rattle.positions.specs.Positions.{movedTo}
+use Rattle.positions.specs.PositionLaws.{LedTo}
 use Rattle.moving.specs.Moving.{moved}
 use Rattle.moving.proofs.Moves.{moves-to}
 use Rattle.moving.proofs.MovingLaws.{moving-laws}
@@ -24,29 +25,21 @@ use Rattle.strumok.specs.ChainLaws.{RestoredAfterMove, ChainLaws}
 
 -- ---- where a chain leads
 
--- a state to which the key leads, well-formed, at position p
-record LedTo (key iv : List ℕ) (s : State) (p : ℤ) : Type 0 where
-  pub leads : Leads key iv s
-  pub well-formed : WellFormed s
-  pub position : pos (s .position) ≡ p
-
 module _ {key iv : List ℕ} where
   answer-leads : (s : State) (c : Call) → Leads key iv s → WellFormed s → answerTo s c .number ≡ accepted → LedTo key iv (answerTo s c .state) (pos (s .position) +ℤ countOf c)
-  answer-leads s (portion source target) l w e =
-      let on = applying-laws .portion-leads key iv s l source target e in record { leads = on .leads; well-formed = on .well-formed; position = on .position }
-  answer-leads s (window buffer start count) l w e =
-      let on = applying-laws .window-leads key iv s l buffer start count e in record { leads = on .leads; well-formed = on .well-formed; position = on .position }
+  answer-leads s (portion source target) l w e = applying-laws .portion-leads key iv s l source target e
+  answer-leads s (window buffer start count) l w e = applying-laws .window-leads key iv s l buffer start count e
   answer-leads s (move distance) l w e =
-      record { leads = moving-laws .moved-leads key iv s distance l e; well-formed = moving-laws .moved-well-formed s distance e; position = moving-laws .new-position s distance e }
-  answer-leads s (check iv′ target) l w e = record { leads = rw e l; well-formed = rw e w; position = rw e (sym (+ℤ-idr (pos (s .position)))) }
+      record { key-leads = moving-laws .moved-leads key iv s distance l e; well-formed = moving-laws .moved-well-formed s distance e; position = moving-laws .new-position s distance e }
+  answer-leads s (check iv′ target) l w e = record { key-leads = rw e l; well-formed = rw e w; position = rw e (sym (+ℤ-idr (pos (s .position)))) }
 
   after-leads : (s : State) (calls : List Call) → Leads key iv s → WellFormed s → AllAccepted s calls → LedTo key iv (after s calls) (pos (s .position) +ℤ total calls)
-  after-leads s [] l w a = record { leads = l; well-formed = w; position = sym (+ℤ-idr (pos (s .position))) }
+  after-leads s [] l w a = record { key-leads = l; well-formed = w; position = sym (+ℤ-idr (pos (s .position))) }
   after-leads s (c ∷ calls) l w a =
       let one = answer-leads s c l w (a .0) in
-      let rest = after-leads (answerTo s c .state) calls (one .leads) (one .well-formed) (a .1) in
+      let rest = after-leads (answerTo s c .state) calls (one .key-leads) (one .well-formed) (a .1) in
       record {
-        leads = rest .leads;
+        key-leads = rest .key-leads;
         well-formed = rest .well-formed;
         position = rest .position ∙ ap (λ (z : ℤ). z +ℤ total calls) (one .position) ∙ +ℤ-assoc (pos (s .position)) (countOf c) (total calls);
       }
@@ -57,7 +50,7 @@ module _ (key iv : List ℕ) (calls : List Call) (s : State) (r : Reached key iv
       after-leads (opened key iv .state) calls (opening-laws .opened-leads key iv (r .opening)) (opening-laws .opened-well-formed key iv (r .opening)) (r .accepts)
 
   reached-leads : Leads key iv s
-  reached-leads = subst (Leads key iv) (sym (r .state)) (chain .leads)
+  reached-leads = subst (Leads key iv) (sym (r .state)) (chain .key-leads)
 
   reached-well-formed : WellFormed s
   reached-well-formed = subst WellFormed (sym (r .state)) (chain .well-formed)

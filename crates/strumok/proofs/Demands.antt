@@ -36,8 +36,8 @@ keystream key iv calls s r =
 pub stored-states : StoredStates
 stored-states =
     record {
-      checking = checking-laws .stored;
+      checking = checking-laws .stored-checked;
       unaltered = checking-laws .unaltered;
-      reached = λ key iv calls s target r. checking-laws .leads-checked key iv s target (chain-laws .reached-leads key iv calls s r) (chain-laws .reached-well-formed key iv calls s r);
+      reached-accepted = λ key iv calls s target r. checking-laws .leads-checked key iv s target (chain-laws .reached-leads key iv calls s r) (chain-laws .reached-well-formed key iv calls s r);
       openings-differ = opening-laws .openings-differ;
     }

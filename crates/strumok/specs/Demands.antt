@@ -57,7 +57,7 @@ pub record StoredStates : Type 0 where
   -- the state comes back as it came, accepted or not
   pub unaltered : (s : State) (iv target : List ℕ) → checked s iv target .state ≡ s
   -- a state that opening and a chain of accepted calls made is accepted with its IV, and its key is handed back
-  pub reached :
+  pub reached-accepted :
       (key iv : List ℕ) (calls : List Call) (s : State) (target : List ℕ) → Reached key iv calls s → length target ≡ length key
       → (checked s iv target ≡ record { number = accepted; state = s }) × (checkedTarget s iv target ≡ key)
   pub openings-differ : OpeningsDiffer
