@@ -13,7 +13,7 @@ use lib.Signed.{ltZ, _<ℤ_}
 use Rattle.galois.proofs.Computed.{both-right}
 use Rattle.generator.specs.declared.State.{State}
 use Rattle.answers.specs.Numbers.{limit, accepted}
-use Rattle.answers.specs.Tests.{Test, keyLengthTest, ivLengthTest, sizeMarkTest, positionTest, targetTest, windowTest, newPositionAboveTest, newPositionBelowTest, keyTargetTest, stateTests, returned, answer, written}
+use Rattle.answers.specs.Tests.{Test, keyLengthTest, ivLengthTest, sizeMarkTest, positionTest, targetTest, windowTest, newPositionAboveTest, newPositionBelowTest, keyTargetTest, stateTests, returned, answerOf, written}
 use Rattle.answers.specs.Lines.{Line, keyLengthLine, ivLengthLine, sizeMarkLine, positionLine, targetLine, windowLine, newPositionAboveLine, newPositionBelowLine, keyTargetLine, stateLines, NumberOfFirst, NoneApplies, RefusesExactly}
 use Rattle.answers.proofs.Tests.{one-of, is-one-of, numbered, returned-none}
 
@@ -65,7 +65,7 @@ decide-append [] us (line ∷ lines) more d h = absurd d
 decide-append (t ∷ ts) us [] more d h = absurd d
 decide-append (t ∷ ts) us (line ∷ lines) more d h = (d .0, λ e. decide-append ts us lines more (d .1 e) (λ z. h (rw e z)))
 
-pub refuses-exactly : (ts : List Test) (lines : List Line) (made back : State) → T (numbered ts) → DecideAll ts lines → RefusesExactly (answer ts made back) lines back
+pub refuses-exactly : (ts : List Test) (lines : List Line) (made back : State) → T (numbered ts) → DecideAll ts lines → RefusesExactly (answerOf ts made back) lines back
 refuses-exactly ts lines made back n d =
     record {
       first = first-line ts lines d;

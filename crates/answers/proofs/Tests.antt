@@ -10,7 +10,7 @@ use Rattle.galois.proofs.Computed.{both}
 use Rattle.generator.specs.declared.State.{State}
 use Rattle.answers.specs.declared.Answer.{Answer}
 use Rattle.answers.specs.Numbers.{limit, accepted}
-use Rattle.answers.specs.Tests.{Test, sizeMarkTest, positionTest, returned, WellFormed, answer, written}
+use Rattle.answers.specs.Tests.{Test, sizeMarkTest, positionTest, returned, WellFormed, answerOf, written}
 
 -- ---- a number that is one of two
 
@@ -79,10 +79,10 @@ position-le s e =
 -- ---- the answer
 
 module _ (tests : List Test) (made back : State) where
-  pub answer-refused : {n : ℕ} → n ≡ returned tests → (n ≡ accepted → ⊥) → _≡_ {A = Answer} (record { number = n; state = back }) (answer tests made back)
+  pub answer-refused : {n : ℕ} → n ≡ returned tests → (n ≡ accepted → ⊥) → _≡_ {A = Answer} (record { number = n; state = back }) (answerOf tests made back)
   answer-refused {n} e h = sym (rw (← e) (rw (ne-eqb n accepted h)))
 
-  pub answer-accepted : {s : State} → returned tests ≡ accepted → s ≡ made → _≡_ {A = Answer} (record { number = accepted; state = s }) (answer tests made back)
+  pub answer-accepted : {s : State} → returned tests ≡ accepted → s ≡ made → _≡_ {A = Answer} (record { number = accepted; state = s }) (answerOf tests made back)
   answer-accepted e es = sym (rw (e, es))
 
 -- ---- what a buffer is left with

@@ -69,8 +69,8 @@ abbrev pub WellFormed : State → Type 0
 WellFormed s = returned (stateTests s) ≡ accepted
 
 -- the answer of a call with these tests: the state that it makes where none applies, and else the one that a refusal gives back
-abbrev pub answer : List Test → (made back : State) → Answer
-answer tests made back = record { number = returned tests; state = cond (eqb (returned tests) accepted) made back }
+abbrev pub answerOf : List Test → (made back : State) → Answer
+answerOf tests made back = record { number = returned tests; state = cond (eqb (returned tests) accepted) made back }
 
 -- "No buffer is written": what a call with these tests leaves in a buffer, where none applies, and else what it held
 abbrev pub written : List Test → (made held : List ℕ) → List ℕ

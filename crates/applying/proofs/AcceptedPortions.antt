@@ -23,7 +23,7 @@ use Rattle.applying.proofs.Portions.{Advances, accepted-advances, accep
 
 pub keystream-of-key : (key iv : List ℕ) (s : State) → Leads key iv s → (p : ℕ) → keystreamByteOf s p ≡ keystreamByte key iv p
 unfolding keystreamByteOf keystreamByte movedTo
-keystream-of-key key iv s l p = ap (λ (r : Registers). byteAt (keystreamWord r) p) (position-laws .moved-leads key iv s p l .registers)
+keystream-of-key key iv s l p = ap (λ (r : Registers). byteAt (keystreamWord r) p) (position-laws .moved-to-leads key iv s p l .registers)
 
 keystream-on : (s : State) (q r : ℕ) → s .position ≤ q → q ≤ r → keystreamByteOf (movedTo s q) r ≡ keystreamByteOf s r
 unfolding keystreamByteOf
@@ -65,7 +65,7 @@ module _ (s : State) (xs target : List ℕ) where
 pub later-portion : (s : State) (k m len : ℕ) → WellFormed s → s .position + k + m ≤ limit → m ≤ len → PortionFits (movedTo s (s .position + k)) m len
 later-portion s k m len ok room fits =
     record {
-      well-formed = position-laws .moved-well-formed s (s .position + k) ok (omega arith);
+      well-formed = position-laws .moved-to-well-formed s (s .position + k) ok (omega arith);
       fits = le-ltb len m fits;
       room = rw (position-laws .position-moved s (s .position + k)) room;
     }

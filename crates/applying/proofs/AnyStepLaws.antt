@@ -8,7 +8,7 @@ use Rattle.generator.specs.declared.Kind.{Kind}
 use Rattle.generator.specs.declared.Kind.the-variants.{Ordinary}
 use Rattle.generator.specs.Registers.{Registers, next}
 use Rattle.generator.proofs.GeneratorLaws.{generator-laws}
-use Rattle.answers.specs.Tests.{answer, written}
+use Rattle.answers.specs.Tests.{answerOf, written}
 use Rattle.positions.specs.Positions.{movedTo}
 use Rattle.applying.specs.Applying.{withKeystream, applyingTests, windowTests}
 use Rattle.applying.specs.AnyStep.{advancedBy, withKeystreamBy}
@@ -27,10 +27,10 @@ with-keystream s xs = ap (λ (f : Registers → Registers). withKeystreamBy f s 
 pub any-step-laws : AnyStepLaws
 any-step-laws =
     record {
-      applied-by = λ s source target. ap (λ (t : State). answer (applyingTests s (length source) (length target)) t s) (advanced s (length source));
+      applied-by = λ s source target. ap (λ (t : State). answerOf (applyingTests s (length source) (length target)) t s) (advanced s (length source));
       applied-target-by =
           λ s source target. ap (λ (l : List ℕ). written (applyingTests s (length source) (length target)) (l ++ drop (length source) target) target) (with-keystream s source);
-      windowed-by = λ s buffer start count. ap (λ (t : State). answer (windowTests s (length buffer) start count) t s) (advanced s count);
+      windowed-by = λ s buffer start count. ap (λ (t : State). answerOf (windowTests s (length buffer) start count) t s) (advanced s count);
       windowed-buffer-by =
           λ s buffer start count. ap (λ (l : List ℕ). written (windowTests s (length buffer) start count) (take start buffer ++ (l ++ drop (start + count) buffer)) buffer)
           (with-keystream s (take count (drop start buffer)));

@@ -99,8 +99,8 @@ led-on : {key iv : List ℕ} (s : State) (fit : Test) (n : ℕ) {t : State} → 
 led-on {key} {iv} s fit n l a e =
     subst (λ (t : State). LedTo key iv t (newPosition s (pos n))) (sym e)
     (record {
-      key-leads = position-laws .moved-leads key iv s (s .position + n) l;
-      well-formed = position-laws .moved-well-formed s (s .position + n) (a .well-formed) (a .room);
+      key-leads = position-laws .moved-to-leads key iv s (s .position + n) l;
+      well-formed = position-laws .moved-to-well-formed s (s .position + n) (a .well-formed) (a .room);
       position = ap pos (position-laws .position-moved s (s .position + n));
     })
 

@@ -8,7 +8,7 @@ use Rattle.generator.specs.Registers.{Registers, registersOf, stateOf, iterate}
 use Rattle.masking.specs.Masking.{masked}
 use Rattle.keystream_words.specs.Keystream.{streamByte}
 use Rattle.answers.specs.declared.Answer.{Answer}
-use Rattle.answers.specs.Tests.{answer, written}
+use Rattle.answers.specs.Tests.{answerOf, written}
 use Rattle.applying.specs.Applying.{applyingTests, windowTests}
 
 -- the state n bytes on, by the step f
@@ -22,7 +22,7 @@ withKeystreamBy f s xs = masked (streamByte f (registersOf s)) (s .position % 8)
 -- ---- from a source to a target: the answer, and the target
 
 abbrev pub appliedBy : (f : Registers → Registers) → State → (source target : List ℕ) → Answer
-appliedBy f s source target = answer (applyingTests s (length source) (length target)) (advancedBy f s (length source)) s
+appliedBy f s source target = answerOf (applyingTests s (length source) (length target)) (advancedBy f s (length source)) s
 
 abbrev pub appliedTargetBy : (f : Registers → Registers) → State → (source target : List ℕ) → List ℕ
 appliedTargetBy f s source target =
@@ -31,7 +31,7 @@ appliedTargetBy f s source target =
 -- ---- over a window of one buffer: the answer, and the buffer
 
 abbrev pub windowedBy : (f : Registers → Registers) → State → (buffer : List ℕ) (start count : ℕ) → Answer
-windowedBy f s buffer start count = answer (windowTests s (length buffer) start count) (advancedBy f s count) s
+windowedBy f s buffer start count = answerOf (windowTests s (length buffer) start count) (advancedBy f s count) s
 
 abbrev pub windowedBufferBy : (f : Registers → Registers) → State → (buffer : List ℕ) (start count : ℕ) → List ℕ
 windowedBufferBy f s buffer start count =

@@ -11,7 +11,7 @@ use Rattle.generator.specs.Registers.{registersOf, keystreamWord}
 use Rattle.masking.specs.Masking.{byteAt, masked}
 use Rattle.loading.specs.Loading.{registersAt}
 use Rattle.answers.specs.declared.Answer.{Answer}
-use Rattle.answers.specs.Tests.{Test, stateTests, targetTest, windowTest, newPosition, newPositionAboveTest, answer, written}
+use Rattle.answers.specs.Tests.{Test, stateTests, targetTest, windowTest, newPosition, newPositionAboveTest, answerOf, written}
 use Rattle.answers.specs.Lines.{Line, stateLines, targetLine, windowLine, newPositionAboveLine}
 use Rattle.positions.specs.Positions.{movedTo}
 
@@ -45,7 +45,7 @@ applyingLines s n len = advancingLines s (targetLine n len) n
 
 -- "moves the position on by n": the answer
 abbrev pub applied : State → (source target : List ℕ) → Answer
-applied s source target = answer (applyingTests s (length source) (length target)) (movedTo s (s .position + length source)) s
+applied s source target = answerOf (applyingTests s (length source) (length target)) (movedTo s (s .position + length source)) s
 
 -- "Applying a source of n bytes writes the first n bytes of the target", "later target bytes keep their values": the target
 abbrev pub appliedTarget : State → (source target : List ℕ) → List ℕ
@@ -63,7 +63,7 @@ windowLines s len start count = advancingLines s (windowLine len start count) co
 
 -- "A window that begins anywhere inside the lent buffer may be worked over, given its start and its count": the answer
 abbrev pub windowed : State → (buffer : List ℕ) (start count : ℕ) → Answer
-windowed s buffer start count = answer (windowTests s (length buffer) start count) (movedTo s (s .position + count)) s
+windowed s buffer start count = answerOf (windowTests s (length buffer) start count) (movedTo s (s .position + count)) s
 
 -- "the bytes outside it keep their values": the buffer
 abbrev pub windowedBuffer : State → (buffer : List ℕ) (start count : ℕ) → List ℕ

@@ -10,7 +10,7 @@ use Rattle.loading.specs.Loading.{load}
 use Rattle.loading.specs.Recovery.{loadedFrom, recoveredKey}
 use Rattle.answers.specs.declared.Answer.{Answer}
 use Rattle.answers.specs.Numbers.{refusedNoKeyLeads}
-use Rattle.answers.specs.Tests.{Test, ivLengthTest, keyTargetTest, stateTests, answer, written}
+use Rattle.answers.specs.Tests.{Test, ivLengthTest, keyTargetTest, stateTests, answerOf, written}
 use Rattle.answers.specs.Lines.{Line, ivLengthLine, keyTargetLine, stateLines}
 use Rattle.opening.specs.Opening.{Leads}
 
@@ -60,7 +60,7 @@ checkingLines s iv len = linesBefore10 s iv len ++ (noKeyLeadsLine s iv ∷ [])
 
 -- "gives the state back unaltered", and so does a refusal: the answer
 abbrev pub checked : State → (iv target : List ℕ) → Answer
-checked s iv target = answer (checkingTests s iv (length target)) s s
+checked s iv target = answerOf (checkingTests s iv (length target)) s s
 
 -- "Acceptance writes the key into the key target": the target
 abbrev pub checkedTarget : State → (iv target : List ℕ) → List ℕ

@@ -1,4 +1,4 @@
-// Runs the check of a state at document 01's edges, and prints a line for each: at five positions, with a bit of the state changed, and with
+// Runs the check of states, and prints a line for each: at five positions, with a bit of the state changed, and with
 // another IV. The file `stdout` beside it is what another implementation printed for the same list.
 use generator::State;
 use printing::end_with;

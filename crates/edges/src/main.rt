@@ -1,4 +1,4 @@
-// Runs document 01's edges but those of the check, and prints a line for each: the lengths of a key, and for both key sizes portions, moves and
+// Runs document 01's edges, and prints a line for each: the lengths of a key, and for both key sizes portions, moves and
 // a window. The file `stdout` beside it is what another implementation printed for the same list.
 use generator::State;
 use printing::end_with;

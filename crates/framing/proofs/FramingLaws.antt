@@ -62,7 +62,7 @@ module _ (key iv : List ℕ) where
       )
       (
       ap (λ (t : State). joined (piecesOut t pieces)) (piece-state s piece ok here)
-      ∙ pieces-joined (movedTo s (p + length piece)) pieces (position-laws .moved-leads key iv s (p + length piece) l) (position-laws .moved-well-formed s (p + length piece) ok here)
+      ∙ pieces-joined (movedTo s (p + length piece)) pieces (position-laws .moved-to-leads key iv s (p + length piece) l) (position-laws .moved-to-well-formed s (p + length piece) ok here)
       (rw there (omega (arith, room, long)))
       ∙ ap (λ (q : ℕ). masked (keystreamByte key iv) q (joined pieces)) there
       )

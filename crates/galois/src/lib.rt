@@ -1,4 +1,4 @@
-// Bytes and words, the byte field, the tables of α and of its inverse, and the products of a word with them by table.
+// Bytes and words, the byte field, the tables of α and of its inverse, and the products of a word with α and its inverse by table.
 ghost use mathlib.Core.Path.{_≡_};
 ghost use Prim.Native.Nat.{_+_, _*_, _%_, _^_};
 ghost use Rattle.galois.specs.Words.{byte, at};

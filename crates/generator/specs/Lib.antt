@@ -1,4 +1,4 @@
--- The definitions that the contracts of generator cite, and its laws.
+-- The definitions that the contracts of generator and walks cite, and their laws.
 pub mod Registers
 pub mod Functions
 pub mod GeneratorLaws

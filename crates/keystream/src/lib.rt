@@ -1,5 +1,4 @@
 // The keystream over a buffer, in place, from any byte of a state's word on. Tables are lent.
-ghost use mathlib.Core.Path.{_≡_};
 ghost use Prim.Native.Nat.{_+_, _%_, _<_, _≤_};
 ghost use lib.ListN.{length};
 ghost use Rattle.generator.specs.declared.Kind.the-variants.{Ordinary};

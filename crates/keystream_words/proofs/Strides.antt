@@ -7,7 +7,8 @@ use native.Mathlib.Omega.{arith}
 use lib.ListN.{length}
 use Rattle.generator.specs.declared.State.{State}
 use Rattle.generator.specs.Registers.{Registers}
-use Rattle.keystream_words.specs.Keystream.{KeystreamOver, KeystreamUpTo, KeystreamOn}
+use Rattle.keystream_words.specs.Keystream.{KeystreamOver, KeystreamUpTo}
+use Rattle.keystream_words.proofs.Lines.{KeystreamOn}
 use Rattle.keystream_words.proofs.Parts.{none-done, done-length, all-done}
 
 -- the first i bytes are done, so many strides, and there are as many bytes as some number of strides has

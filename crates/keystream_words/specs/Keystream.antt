@@ -2,7 +2,7 @@
 -- to, with the step that the tables give as a parameter.
 use mathlib.Core.Path.{_≡_}
 use mathlib.Core.List.{List, _++_}
-use Prim.Native.Nat.{ℕ, _+_, _/_, _%_, _≤_}
+use Prim.Native.Nat.{ℕ, _+_, _/_, _<_, _≤_}
 use lib.ListN.{length, take, drop}
 use Rattle.generator.specs.declared.State.{State}
 use Rattle.generator.specs.Registers.{Registers, registersOf, keystreamWord, iterate, walked}
@@ -23,7 +23,9 @@ pub record KeystreamUpTo (n : ℕ) (f : Registers → Registers) (p : ℕ) (s : 
   pub state : t ≡ walked f ((p + n) / 8) s
   pub bytes : ys ≡ masked (streamByte f (registersOf s)) p (take n xs) ++ drop n xs
 
--- what leads from the state s and the bytes xs to t and ys goes on with the keystream: where it has come up to m, a word's start, it comes up to n, if
--- there are as many bytes
-abbrev pub KeystreamOn : (m n : ℕ) (f : Registers → Registers) (s : State) (xs : List ℕ) (t : State) (ys : List ℕ) → Type 0
-KeystreamOn m n f s xs t ys = (start : State) (before : List ℕ) → m % 8 ≡ 0 → n ≤ length before → KeystreamUpTo m f 0 start before s xs → KeystreamUpTo n f 0 start before t ys
+-- one word: where the eight bytes from place i on are there, the keystream word of s over them and the state a step on; else nothing is done
+pub record WordAt (f : Registers → Registers) (i : ℕ) (s : State) (xs : List ℕ) (t : State) (ys : List ℕ) : Type 0 where
+  pub there :
+      i + 8 ≤ length xs
+      → (t ≡ walked f 1 s) × (ys ≡ take i xs ++ (masked (streamByte f (registersOf s)) 0 (take 8 (drop i xs)) ++ drop 8 (drop i xs)))
+  pub not-there : length xs < i + 8 → (t ≡ s) × (ys ≡ xs)

@@ -1,10 +1,10 @@
 // The keystream over the whole words of a buffer, in place, from the start of a word on. Tables are lent.
 ghost use mathlib.Core.Path.{_≡_};
-ghost use Prim.Native.Nat.{_+_, _*_, _/_, _%_, _<_, _≤_};
+ghost use Prim.Native.Nat.{_*_, _/_, _%_, _<_};
 ghost use lib.ListN.{length};
 ghost use Rattle.generator.specs.declared.Kind.the-variants.{Ordinary};
 ghost use Rattle.generator.specs.Functions.{nextIn};
-ghost use Rattle.keystream_words.specs.Keystream.{KeystreamOn, KeystreamOver, KeystreamUpTo};
+ghost use Rattle.keystream_words.specs.Keystream.{KeystreamOver, KeystreamUpTo, WordAt};
 use generator::Kind;
 use generator::State;
 use generator::step;
@@ -12,9 +12,9 @@ use masking::mask_word;
 
 // ---- words in a straight line
 
-// One word, over the eight bytes from i on; nothing where there are fewer, a test that the compiler drops where it knows the length.
+// One word, over the eight bytes from i on; nothing is done where there are fewer, a test that the compiler drops where it knows the length.
 fn apply_word(s: State, tables: &[[u64; 256]; 10], buffer: &mut [u8], i: usize) -> State
-    ensures { λ r. ⌜ KeystreamOn i (i + 8) (nextIn (now (tables .entry)) Ordinary) s (now (buffer .entry)) r (now (buffer .exit)) ⌝ }
+    ensures { λ r. ⌜ WordAt (nextIn (now (tables .entry)) Ordinary) i s (now (buffer .entry)) r (now (buffer .exit)) ⌝ }
 {
     let n = buffer.len();
     if n < i {

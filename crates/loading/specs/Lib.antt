@@ -1,4 +1,4 @@
--- The definitions that the contracts of loading cite, its laws, and the worked table.
+-- The definitions that the contracts of loading, cells and recovering cite, their laws, and the worked table.
 pub mod Loading
 pub mod Recovery
 pub mod LoadingLaws

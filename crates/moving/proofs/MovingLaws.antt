@@ -54,7 +54,7 @@ unfolding movedTo
 new-position s d e = ap (λ (t : State). pos (t .position)) (moved-state s d e) ∙ sym (accepted-ends s d e .there)
 
 moved-well-formed : (s : State) (distance : ℤ) → moved s distance .number ≡ accepted → WellFormed (moved s distance .state)
-moved-well-formed s d e = let end = accepted-ends s d e in subst WellFormed (sym (moved-state s d e)) (position-laws .moved-well-formed s (end .to) (end .well-formed) (end .low))
+moved-well-formed s d e = let end = accepted-ends s d e in subst WellFormed (sym (moved-state s d e)) (position-laws .moved-to-well-formed s (end .to) (end .well-formed) (end .low))
 
 there-and-back : (s : State) (distance : ℤ) → EighteenWords (registersOf s) → moved s distance .number ≡ accepted → moved (moved s distance .state) (negℤ distance) ≡ record { number = accepted; state = s }
 there-and-back s d w e =
@@ -63,10 +63,10 @@ there-and-back s d w e =
     let back : newPosition t (negℤ d) ≡ pos (s .position) =
     ap (λ (p : ℕ). pos p +ℤ negℤ d) (position-laws .position-moved s (end .to)) ∙ ap (λ (z : ℤ). z +ℤ negℤ d) (sym (end .there)) ∙ +ℤ-negℤ-cancel (pos (s .position)) d in
     ap (λ (x : State). moved x (negℤ d)) (moved-state s d e)
-    ∙ sym (moves-to t (negℤ d) (position-laws .moved-well-formed s (end .to) (end .well-formed) (end .low)) back (position-le s (end .well-formed)) (sym (position-laws .moved-moved s (end .to) (s .position) w ∙ position-laws .moved-here s)))
+    ∙ sym (moves-to t (negℤ d) (position-laws .moved-to-well-formed s (end .to) (end .well-formed) (end .low)) back (position-le s (end .well-formed)) (sym (position-laws .moved-moved s (end .to) (s .position) w ∙ position-laws .moved-here s)))
 
 moved-leads : (key iv : List ℕ) (s : State) (distance : ℤ) → Leads key iv s → moved s distance .number ≡ accepted → Leads key iv (moved s distance .state)
-moved-leads key iv s d l e = subst (Leads key iv) (sym (moved-state s d e)) (position-laws .moved-leads key iv s (accepted-ends s d e .to) l)
+moved-leads key iv s d l e = subst (Leads key iv) (sym (moved-state s d e)) (position-laws .moved-to-leads key iv s (accepted-ends s d e .to) l)
 
 pub moving-laws : MovingLaws
 moving-laws =

@@ -3,7 +3,7 @@ use mathlib.Core.List.{List, [], _∷_, _++_}
 use lib.IntN.{ℤ, natAbs}
 use Rattle.generator.specs.declared.State.{State}
 use Rattle.answers.specs.declared.Answer.{Answer}
-use Rattle.answers.specs.Tests.{Test, stateTests, newPosition, newPositionAboveTest, newPositionBelowTest, answer}
+use Rattle.answers.specs.Tests.{Test, stateTests, newPosition, newPositionAboveTest, newPositionBelowTest, answerOf}
 use Rattle.answers.specs.Lines.{Line, stateLines, newPositionAboveLine, newPositionBelowLine}
 use Rattle.positions.specs.Positions.{movedTo}
 
@@ -17,4 +17,4 @@ movingLines s distance = stateLines s ++ (newPositionAboveLine (newPosition s di
 -- "A move is a signed 64-bit count of bytes, negative towards the start; an accepted one leaves the state at the old position plus that
 -- count.", "other refusals return the state unaltered"
 abbrev pub moved : State → (distance : ℤ) → Answer
-moved s distance = answer (movingTests s distance) (movedTo s (natAbs (newPosition s distance))) s
+moved s distance = answerOf (movingTests s distance) (movedTo s (natAbs (newPosition s distance))) s

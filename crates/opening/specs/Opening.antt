@@ -8,7 +8,7 @@ use Rattle.generator.specs.Registers.{registersOf, stateOf}
 use Rattle.loading.specs.Loading.{Bytes, sizeMark, registersAt}
 use Rattle.answers.specs.declared.Answer.{Answer}
 use Rattle.answers.specs.Numbers.{accepted}
-use Rattle.answers.specs.Tests.{Test, keyLengthTest, ivLengthTest, answer}
+use Rattle.answers.specs.Tests.{Test, keyLengthTest, ivLengthTest, answerOf}
 use Rattle.answers.specs.Lines.{Line, keyLengthLine, ivLengthLine}
 
 -- "the blank state (all cells, registers, position and size mark 0)"
@@ -28,7 +28,7 @@ openingLines key iv = keyLengthLine key ∷ ivLengthLine iv ∷ []
 
 -- "A refused opening returns the blank state"
 abbrev pub opened : (key iv : List ℕ) → Answer
-opened key iv = answer (openingTests key iv) (openedState key iv) blank
+opened key iv = answerOf (openingTests key iv) (openedState key iv) blank
 
 -- a key and an IV, strings of bytes, that opening accepts
 pub record OpeningAccepts (key iv : List ℕ) : Type 0 where

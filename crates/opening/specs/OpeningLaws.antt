@@ -2,7 +2,6 @@
 use mathlib.Core.Path.{_≡_}
 use mathlib.Core.List.{List}
 use Prim.Native.Nat.{ℕ}
-use Rattle.generator.specs.declared.State.{State}
 use Rattle.loading.specs.Loading.{sizeMark, registersAt}
 use Rattle.answers.specs.Tests.{WellFormed}
 use Rattle.answers.specs.Lines.{RefusesExactly}

@@ -36,9 +36,9 @@ position-moved : (s : State) (to : ℕ) → movedTo s to .position ≡ to
 unfolding movedTo
 position-moved s to = refl
 
-moved-well-formed : (s : State) (to : ℕ) → WellFormed s → to ≤ limit → WellFormed (movedTo s to)
+moved-to-well-formed : (s : State) (to : ℕ) → WellFormed s → to ≤ limit → WellFormed (movedTo s to)
 unfolding movedTo
-moved-well-formed s to e h = let size = returned-none (sizeMarkTest s) (positionTest s ∷ []) tt e in rw (size .0, le-ltb limit to h)
+moved-to-well-formed s to e h = let size = returned-none (sizeMarkTest s) (positionTest s ∷ []) tt e in rw (size .0, le-ltb limit to h)
 
 moved-moved : (s : State) (p q : ℕ) → EighteenWords (registersOf s) → movedTo (movedTo s p) q ≡ movedTo s q
 unfolding movedTo
@@ -58,9 +58,9 @@ unfolding registersAt
 walk-registers key iv o a b =
     walk-from a b (initialised (load key iv)) (loading-laws .walk-back-undoes 0 .keeps (load key iv) (loading-laws .loads-words key iv (key-and-iv o)))
 
-moved-leads : (key iv : List ℕ) (s : State) (to : ℕ) → Leads key iv s → Leads key iv (movedTo s to)
+moved-to-leads : (key iv : List ℕ) (s : State) (to : ℕ) → Leads key iv s → Leads key iv (movedTo s to)
 unfolding movedTo
-moved-leads key iv s to l =
+moved-to-leads key iv s to l =
     record {
       opening = l .opening;
       size = l .size;
@@ -69,16 +69,16 @@ moved-leads key iv s to l =
 
 moved-opened : (key iv : List ℕ) → OpeningAccepts key iv → (p : ℕ) → registersOf (movedTo (opened key iv .state) p) ≡ registersAt key iv (p / 8)
 unfolding movedTo
-moved-opened key iv o p = moved-leads key iv (opened key iv .state) p (opening-laws .opened-leads key iv o) .registers
+moved-opened key iv o p = moved-to-leads key iv (opened key iv .state) p (opening-laws .opened-leads key iv o) .registers
 
 pub position-laws : PositionLaws
 position-laws =
     record {
       position-moved = position-moved;
-      moved-well-formed = moved-well-formed;
+      moved-to-well-formed = moved-to-well-formed;
       moved-moved = moved-moved;
       moved-here = moved-here;
       moved-on = moved-on;
-      moved-leads = moved-leads;
+      moved-to-leads = moved-to-leads;
       moved-opened = moved-opened;
     }

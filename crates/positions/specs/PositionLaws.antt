@@ -21,13 +21,13 @@ pub record LedTo (key iv : List ℕ) (t : State) (p : ℤ) : Type 0 where
 pub record PositionLaws : Type 0 where
   pub position-moved : (s : State) (to : ℕ) → movedTo s to .position ≡ to
   -- a well-formed state is so at every position up to the last
-  pub moved-well-formed : (s : State) (to : ℕ) → WellFormed s → to ≤ limit → WellFormed (movedTo s to)
+  pub moved-to-well-formed : (s : State) (to : ℕ) → WellFormed s → to ≤ limit → WellFormed (movedTo s to)
   -- where a state is moved depends on positions alone, and where it stands already it is as it was
   pub moved-moved : (s : State) (p q : ℕ) → EighteenWords (registersOf s) → movedTo (movedTo s p) q ≡ movedTo s q
   pub moved-here : (s : State) → movedTo s (s .position) ≡ s
   -- on, and further on: whatever the registers hold
   pub moved-on : (s : State) (p q : ℕ) → s .position ≤ p → p ≤ q → movedTo (movedTo s p) q ≡ movedTo s q
   -- where a key leads to a state, it leads to that state at every position
-  pub moved-leads : (key iv : List ℕ) (s : State) (to : ℕ) → Leads key iv s → Leads key iv (movedTo s to)
+  pub moved-to-leads : (key iv : List ℕ) (s : State) (to : ℕ) → Leads key iv s → Leads key iv (movedTo s to)
   -- "A state at position p holds the registers of S at word floor(p/8)": an opened state, moved to p
   pub moved-opened : (key iv : List ℕ) → OpeningAccepts key iv → (p : ℕ) → registersOf (movedTo (opened key iv .state) p) ≡ registersAt key iv (p / 8)

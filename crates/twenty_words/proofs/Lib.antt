@@ -1,2 +1,2 @@
--- The proofs of the calls for C beside those of the functions.
+-- The proofs of the laws of twenty words.
 pub mod TwentyWords

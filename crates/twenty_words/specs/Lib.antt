@@ -1,2 +1,2 @@
--- The definitions that the contracts of the calls for C cite.
+-- A state as twenty words, which the contracts of the calls for C cite.
 pub mod TwentyWords

@@ -15,7 +15,7 @@ wordsOf s = s .cells ++ (s .r1 ∷ s .r2 ∷ s .size ∷ s .position ∷ [])
 unfoldable pub stateIn : (words : List ℕ) → State
 stateIn words = stateOf (record { cells = take 16 words; r1 = at words 16; r2 = at words 17 }) (at words 18) (at words 19)
 
--- either undoes the other, so that words which a call gives back as they came are the same words
+-- proofs/TwentyWords.antt has `twenty-words-laws : TwentyWordsLaws`: either undoes the other, so that words which a call gives back as they came are the same words
 pub record TwentyWordsLaws : Type 0 where
   pub words-of-state-in : (words : List ℕ) → length words ≡ 20 → wordsOf (stateIn words) ≡ words
   pub state-in-words-of : (s : State) → length (s .cells) ≡ 16 → stateIn (wordsOf s) ≡ s

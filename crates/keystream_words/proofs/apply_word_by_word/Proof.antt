@@ -1,11 +1,12 @@
 -- `keystream_words::apply_word_by_word` meets its contract: each turn is a stride of 8 bytes.
 use mathlib.Core.Path.{refl}
-use Prim.Native.Nat.{_-_}
+use Prim.Native.Nat.{_+_, _-_}
 use native.Mathlib.Omega.{arith}
 use lib.ListN.{length}
 use borrow.Author.Needs.{needs}
 use Rattle.generator.specs.declared.Kind.the-variants.{Ordinary}
 use Rattle.generator.specs.Functions.{nextIn}
+use Rattle.keystream_words.proofs.Lines.{word-on}
 use Rattle.keystream_words.proofs.Strides.{Strides, strides-none, strides-length, strides-all, strides-more}
 use Rattle.keystream_words.proofs.apply_word_by_word.Statement.{statement}
 use Rattle.keystream_words.proofs.apply_word_by_word.Tie as tie
@@ -20,7 +21,7 @@ loop-again : tie.Need-loop-again Inv-loop μ-loop
 loop-again c =
     let k = c .before .before in
     let l = k .before .before .before .loop in
-    strides-more (l .inv) (omega arith) refl (k .apply-word .ensures)
+    strides-more (l .inv) (omega arith) refl (word-on (l .i + 8) refl (k .apply-word .ensures))
 
 pub apply-word-by-word-spec : {M : Type 1} → statement M
 apply-word-by-word-spec =
