@@ -10,7 +10,8 @@ returns : tie.Need-returns
 returns c =
     let call = c .before .before .before .before in
     let a = call .before .before .before .before .before .before .args in
-    answered-with (λ (s : State). applied s (a .source .now) (a .target .now)) (λ (s : State). appliedTarget s (a .source .now) (a .target .now)) (call .before .before .state-in .ensures) (call .apply .ensures .0) (call .apply .ensures .1) (c .leave .ensures .0) (c .leave .ensures .1)
+    let left = answered-with (λ (s : State). applied s (a .source .now) (a .target .now)) (λ (s : State). appliedTarget s (a .source .now) (a .target .now)) (call .before .before .state-in .ensures) (call .apply .ensures .0) (call .apply .ensures .1) (c .leave .ensures .0) (c .leave .ensures .1) in
+    (left .0, (left .1 .0, left .1 .1))
 
 pub strumok-apply-spec : {M : Type 1} → statement M
 strumok-apply-spec = tie.close (tie.spec (λ c κs. search needs) (λ c κs. search needs) (λ c κs. search needs) (λ c. search needs) returns)

@@ -13,7 +13,8 @@ returns c =
     let call = c .before .before .before .before in
     let a = call .before .before .before .before .before .before .args in
     let step = nextIn (a .tables .now) Ordinary in
-    answered-with (λ (s : State). appliedBy step s (a .source .now) (a .target .now)) (λ (s : State). appliedTargetBy step s (a .source .now) (a .target .now)) (call .before .before .state-in .ensures) (call .apply-with .ensures .0) (call .apply-with .ensures .1) (c .leave .ensures .0) (c .leave .ensures .1)
+    let left = answered-with (λ (s : State). appliedBy step s (a .source .now) (a .target .now)) (λ (s : State). appliedTargetBy step s (a .source .now) (a .target .now)) (call .before .before .state-in .ensures) (call .apply-with .ensures .0) (call .apply-with .ensures .1) (c .leave .ensures .0) (c .leave .ensures .1) in
+    (left .0, (left .1 .0, left .1 .1))
 
 pub strumok-apply-with-spec : {M : Type 1} → statement M
 strumok-apply-with-spec = tie.close (tie.spec (λ c κs. search needs) (λ c κs. search needs) (λ c κs. search needs) (λ c. search needs) returns)

@@ -16,7 +16,8 @@ returns c =
     let entry = call .before .before .before in
     let from = call .before .state-in in
     let answer = call .move-by .ensures ∙ ap (λ (d : ℤ). moved (from .result) d) (toZ-ofZ w64 (entry .args .distance) (entry .fits .distance)) in
-    answered (λ (s : State). moved s (entry .args .distance)) (from .ensures) answer (c .leave .ensures .0) (c .leave .ensures .1)
+    let left = answered (λ (s : State). moved s (entry .args .distance)) (from .ensures) answer (c .leave .ensures .0) (c .leave .ensures .1) in
+    (left .0, left .1)
 
 pub strumok-move-spec : {M : Type 1} → statement M
 strumok-move-spec = tie.close (tie.spec (λ c κs. search needs) (λ c κs. search needs) (λ c κs. search needs) returns)

@@ -10,7 +10,8 @@ returns : tie.Need-returns
 returns c =
     let call = c .before .before .before .before in
     let a = call .before .before .before .before .before .args in
-    answered-with (λ (s : State). windowed s (a .buffer .now) (a .start) (a .count)) (λ (s : State). windowedBuffer s (a .buffer .now) (a .start) (a .count)) (call .before .before .state-in .ensures) (call .window .ensures .0) (call .window .ensures .1) (c .leave .ensures .0) (c .leave .ensures .1)
+    let left = answered-with (λ (s : State). windowed s (a .buffer .now) (a .start) (a .count)) (λ (s : State). windowedBuffer s (a .buffer .now) (a .start) (a .count)) (call .before .before .state-in .ensures) (call .window .ensures .0) (call .window .ensures .1) (c .leave .ensures .0) (c .leave .ensures .1) in
+    (left .0, (left .1 .0, left .1 .1))
 
 pub strumok-window-spec : {M : Type 1} → statement M
 strumok-window-spec = tie.close (tie.spec (λ c κs. search needs) (λ c κs. search needs) (λ c κs. search needs) (λ c. search needs) returns)

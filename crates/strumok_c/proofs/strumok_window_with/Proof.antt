@@ -13,7 +13,8 @@ returns c =
     let call = c .before .before .before .before in
     let a = call .before .before .before .before .before .args in
     let step = nextIn (a .tables .now) Ordinary in
-    answered-with (λ (s : State). windowedBy step s (a .buffer .now) (a .start) (a .count)) (λ (s : State). windowedBufferBy step s (a .buffer .now) (a .start) (a .count)) (call .before .before .state-in .ensures) (call .window-with .ensures .0) (call .window-with .ensures .1) (c .leave .ensures .0) (c .leave .ensures .1)
+    let left = answered-with (λ (s : State). windowedBy step s (a .buffer .now) (a .start) (a .count)) (λ (s : State). windowedBufferBy step s (a .buffer .now) (a .start) (a .count)) (call .before .before .state-in .ensures) (call .window-with .ensures .0) (call .window-with .ensures .1) (c .leave .ensures .0) (c .leave .ensures .1) in
+    (left .0, (left .1 .0, left .1 .1))
 
 pub strumok-window-with-spec : {M : Type 1} → statement M
 strumok-window-with-spec = tie.close (tie.spec (λ c κs. search needs) (λ c κs. search needs) (λ c κs. search needs) (λ c. search needs) returns)
