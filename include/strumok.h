@@ -6,8 +6,8 @@
  * position on, in portions of any length, and leave the state behind the last byte; enciphering and deciphering are the same call.
  * strumok_move goes to another byte, either way. strumok_check tells whether a stored state belongs to an IV, and hands back its key.
  *
- * Every call returns STRUMOK_ACCEPTED or the number of a refusal: the lowest that applies of those listed with the call, which are tested
- * in that order. A refused opening writes the blank state, twenty zeros; any other refusal leaves the state and all buffers as they were.
+ * Every call but strumok_tables returns STRUMOK_ACCEPTED or the number of a refusal: the lowest that applies of those listed with the call,
+ * which are tested in that order. A refused opening writes the blank state, twenty zeros; any other refusal leaves the state and all buffers as they were.
  * Lengths, distances and states need not be looked at beforehand: each value has its answer.
  *
  * All that is proved rests on what C does not check:
@@ -19,8 +19,8 @@
  * A state is as secret as its key: strumok_check turns the one into the other. So is a key target. Secrecy of timing is not claimed: tables
  * are indexed by bytes that are secret. No call wipes what it leaves on the stack.
  *
- * Stack, measured on x86-64: 22 KiB for each call, most of it for tables, 42 KiB for strumok_move where the distance is negative, and 2 KiB for
- * the two calls with tables that the caller holds.
+ * Stack, measured on x86-64: at most 22 KiB for a call, most of it for tables, 42 KiB for strumok_move where the distance is negative, and
+ * 2 KiB for the two calls with tables that the caller holds.
  */
 #ifndef STRUMOK_H
 #define STRUMOK_H

@@ -1,4 +1,4 @@
--- The numbers of the table, their tests and their lines.
+-- The numbers of document 01's table, their tests and their lines.
 pub mod Numbers
 pub mod Tests
 pub mod Lines

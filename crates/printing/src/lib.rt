@@ -1,4 +1,4 @@
-// What a program prints: text, numbers, bytes, words, and the parts of a line. Their contracts say nothing: no contract can say what is written.
+// What a program prints: text, numbers, bytes, words, and the parts of a line. The functions have no contracts: none could say what is written.
 use libc::STDOUT_FILENO;
 
 pub fn text(t: &[u8]) {
