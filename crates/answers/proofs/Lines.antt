@@ -13,8 +13,8 @@ use lib.Signed.{ltZ, _<ℤ_}
 use Rattle.galois.proofs.Computed.{both-right}
 use Rattle.generator.specs.declared.State.{State}
 use Rattle.answers.specs.Numbers.{limit, accepted}
-use Rattle.answers.specs.Tests.{Test, keyLengthTest, ivLengthTest, sizeMarkTest, positionTest, targetTest, windowTest, newPositionAboveTest, newPositionBelowTest, keyTargetTest, stateTests, returned, answerOf, written}
-use Rattle.answers.specs.Lines.{Line, keyLengthLine, ivLengthLine, sizeMarkLine, positionLine, targetLine, windowLine, newPositionAboveLine, newPositionBelowLine, keyTargetLine, stateLines, NumberOfFirst, NoneApplies, RefusesExactly}
+use Rattle.answers.specs.Tests.{Test, keyLengthTest, ivLengthTest, sizeMarkTest, positionTest, targetTest, windowTest, newPosition, newPositionAboveTest, newPositionBelowTest, keyTargetTest, stateTests, returned, answerOf, written}
+use Rattle.answers.specs.Lines.{Line, keyLengthLine, ivLengthLine, sizeMarkLine, positionLine, targetLine, windowLine, newPositionAboveLine, newPositionOnLine, newPositionBelowLine, keyTargetLine, stateLines, NumberOfFirst, NoneApplies, RefusesExactly}
 use Rattle.answers.proofs.Tests.{one-of, is-one-of, numbered, returned-none}
 
 -- ---- lists of tests
@@ -122,6 +122,9 @@ window-decides len start count = above 6 len (start + count)
 
 pub new-position-above-decides : (to : ℤ) → Decides (newPositionAboveTest to) (newPositionAboveLine to)
 new-position-above-decides to = above-ℤ 7 (pos limit) to
+
+pub new-position-on-decides : (s : State) (n : ℕ) → Decides (newPositionAboveTest (newPosition s (pos n))) (newPositionOnLine s n)
+new-position-on-decides s n = above 7 limit (s .position + n)
 
 pub new-position-below-decides : (to : ℤ) → Decides (newPositionBelowTest to) (newPositionBelowLine to)
 new-position-below-decides to = above-ℤ 8 to (pos 0)

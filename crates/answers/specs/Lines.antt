@@ -45,6 +45,10 @@ windowLine len start count = record { number = refusedWindowPastEnd; When = len 
 abbrev pub newPositionAboveLine : (to : ℤ) → Line
 newPositionAboveLine to = record { number = refusedNewPositionAbove; When = pos limit <ℤ to }
 
+-- the same where a state only goes on, by n bytes: a sum of natural numbers
+abbrev pub newPositionOnLine : State → (n : ℕ) → Line
+newPositionOnLine s n = record { number = refusedNewPositionAbove; When = limit < s .position + n }
+
 -- "new position would be below 0"
 abbrev pub newPositionBelowLine : (to : ℤ) → Line
 newPositionBelowLine to = record { number = refusedNewPositionBelow; When = to <ℤ pos 0 }

@@ -7,7 +7,6 @@ use native.Mathlib.Nat.{add-zero}
 use native.Mathlib.Omega.{arith}
 use borrow.Author.Tests.{le-ltb}
 use lib.Dec.{eqb}
-use lib.IntN.{pos}
 use lib.ListN.{length, take, drop, length-append, length-take, length-drop, take-append-drop}
 use lib.Seq.{drop-drop, drop-length}
 use Rattle.generator.specs.declared.State.{State}
@@ -15,10 +14,10 @@ use Rattle.masking.specs.Masking.{masked}
 use Rattle.masking.proofs.Masked.{masked-length, masked-append, masked-drop, masked-masked}
 use Rattle.answers.specs.declared.Answer.{Answer}
 use Rattle.answers.specs.Numbers.{accepted}
-use Rattle.answers.specs.Tests.{Test, targetTest, windowTest, newPosition, returned, WellFormed}
+use Rattle.answers.specs.Tests.{Test, targetTest, windowTest, returned, WellFormed}
 use Rattle.answers.specs.Lines.{Line, targetLine, windowLine}
 use Rattle.answers.proofs.Tests.{position-le}
-use Rattle.answers.proofs.Lines.{Decides, DecideAll, refuses-exactly, writes-nothing, state-decides, target-decides, window-decides, new-position-above-decides}
+use Rattle.answers.proofs.Lines.{Decides, DecideAll, refuses-exactly, writes-nothing, state-decides, target-decides, window-decides, new-position-on-decides}
 use Rattle.positions.specs.Positions.{movedTo}
 use Rattle.positions.proofs.PositionLaws.{position-laws}
 use Rattle.applying.specs.Applying.{keystreamByteOf, withKeystream, advancingTests, advancingLines, applyingTests, applyingLines, applied, appliedTarget, windowTests, windowLines, windowed, windowedBuffer}
@@ -30,7 +29,7 @@ use Rattle.applying.proofs.Ciphers.{portion-ciphers, window-ciphers, po
 -- ---- refusals
 
 advancing-decides : (s : State) (fit : Test) (line : Line) (n : ℕ) → Decides fit line → DecideAll (advancingTests s fit n) (advancingLines s line n)
-advancing-decides s fit line n d = state-decides s (d, λ t. (new-position-above-decides (newPosition s (pos n)), λ t7. tt))
+advancing-decides s fit line n d = state-decides s (d, λ t. (new-position-on-decides s n, λ t7. tt))
 
 applying-refuses : ApplyingRefusals
 applying-refuses s source target =

@@ -12,7 +12,7 @@ use Rattle.masking.specs.Masking.{byteAt, masked}
 use Rattle.loading.specs.Loading.{registersAt}
 use Rattle.answers.specs.declared.Answer.{Answer}
 use Rattle.answers.specs.Tests.{Test, stateTests, targetTest, windowTest, newPosition, newPositionAboveTest, answerOf, written}
-use Rattle.answers.specs.Lines.{Line, stateLines, targetLine, windowLine, newPositionAboveLine}
+use Rattle.answers.specs.Lines.{Line, stateLines, targetLine, windowLine, newPositionOnLine}
 use Rattle.positions.specs.Positions.{movedTo}
 
 -- "A state at position p holds the registers of S at word floor(p/8). Keystream byte p is byte (p mod 8) of that word's Z": of a key and an IV
@@ -32,7 +32,7 @@ abbrev pub advancingTests : State → (fit : Test) (n : ℕ) → List Test
 advancingTests s fit n = stateTests s ++ (fit ∷ newPositionAboveTest (newPosition s (pos n)) ∷ [])
 
 abbrev pub advancingLines : State → (fit : Line) (n : ℕ) → List Line
-advancingLines s fit n = stateLines s ++ (fit ∷ newPositionAboveLine (newPosition s (pos n)) ∷ [])
+advancingLines s fit n = stateLines s ++ (fit ∷ newPositionOnLine s n ∷ [])
 
 -- ---- from a source to a target
 

@@ -16,11 +16,11 @@ use Rattle.applying.specs.Applying.{keystreamByte, windowed, windowedBuffer}
 abbrev pub keyLengthIn : (input : List ℕ) → ℕ
 keyLengthIn input = at input 0
 
--- "the key"; no bytes where the input is too short for it, so that it "counts as 1"
+-- the key; no bytes where there are too few: "Input too short for the key counts as 1"
 abbrev pub keyIn : (input : List ℕ) → List ℕ
 keyIn input = cond (ltb (length input) (1 + keyLengthIn input)) [] (take (keyLengthIn input) (drop 1 input))
 
--- "32 IV bytes"; fewer where the input is "too short for the IV", which then counts "as 2"
+-- the 32 bytes of the IV; fewer where there are fewer: "too short for the IV as 2"
 abbrev pub ivIn : (input : List ℕ) → List ℕ
 ivIn input = take 32 (drop (1 + keyLengthIn input) input)
 

@@ -20,8 +20,8 @@ use Rattle.strumok.specs.Chains.{Call, total, Reached}
 -- ---- 1. Refusals
 
 -- "A refusal has its number, gives the state back as it came (a refused opening gives a blank one) and writes nothing.", "All else is accepted, and
--- no caller need have looked beforehand.": of each call, for every argument; the check is of a state whose registers are any eighteen words, against an IV of any bytes
--- (`RefusesExactly` and `WritesNothing` of answers/specs/Lines.antt)
+-- no caller need have looked beforehand.": of each call, for every argument (`RefusesExactly` and `WritesNothing` of answers/specs/Lines.antt). The check
+-- is of a state whose registers are any eighteen words, against an IV of any bytes.
 pub record Refusals : Type 0 where
   pub opening : OpeningRefusals
   pub moving : MovingRefusals
