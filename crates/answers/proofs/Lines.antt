@@ -3,18 +3,19 @@ use mathlib.Core.Path.{_≡_, refl, sym, _∙_, subst}
 use mathlib.Core.Logic.{_⊎_, inl, inr}
 use mathlib.Core.Bool.{Bool, true, false, true≢false, cond, not, _||_}
 use mathlib.Core.List.{List, [], _∷_, _++_}
-use Prim.Native.Nat.{ℕ, _+_, _/_, _<_}
+use Prim.Native.Nat.{ℕ, _+_, _/_, _<_, _≤_}
 use borrow.Author.Tests.{eqb-true, eqb-false, ne-eqb, ltb-true, ltb-false, not-true, not-false}
-use native.Mathlib.Nat.{not-le-of-lt}
-use lib.Dec.{T, eqb, ltb}
+use native.Mathlib.Nat.{le-refl, not-le-of-lt}
+use native.Mathlib.Omega.{arith}
+use lib.Dec.{T, eqb, ltb, ltb→lt}
 use lib.IntN.{ℤ, pos}
 use lib.ListN.{length}
 use lib.Signed.{ltZ, _<ℤ_}
-use Rattle.galois.proofs.Computed.{both-right}
+use Rattle.galois.proofs.Computed.{both, both-left, both-right}
 use Rattle.generator.specs.declared.State.{State}
-use Rattle.answers.specs.Numbers.{limit, accepted}
+use Rattle.answers.specs.Numbers.{limit, accepted, refusedKeyLength, refusedIvLength, refusedSizeMark, refusedPositionAbove, refusedTargetShorter, refusedWindowPastEnd, refusedNewPositionAbove, refusedNewPositionBelow, refusedKeyTargetLength}
 use Rattle.answers.specs.Tests.{Test, keyLengthTest, ivLengthTest, sizeMarkTest, positionTest, targetTest, windowTest, newPosition, newPositionAboveTest, newPositionBelowTest, keyTargetTest, stateTests, returned, answerOf, written}
-use Rattle.answers.specs.Lines.{Line, keyLengthLine, ivLengthLine, sizeMarkLine, positionLine, targetLine, windowLine, newPositionAboveLine, newPositionOnLine, newPositionBelowLine, keyTargetLine, stateLines, NumberOfFirst, NoneApplies, RefusesExactly}
+use Rattle.answers.specs.Lines.{Line, keyLengthLine, ivLengthLine, sizeMarkLine, positionLine, targetLine, windowLine, newPositionAboveLine, newPositionOnLine, newPositionBelowLine, keyTargetLine, stateLines, numbersOf, NumberOfFirst, NoneLower, NoneApplies, RefusesExactly, TableNumbers}
 use Rattle.answers.proofs.Tests.{one-of, is-one-of, numbered, returned-none}
 
 -- ---- lists of tests
@@ -65,14 +66,47 @@ decide-append [] us (line ∷ lines) more d h = absurd d
 decide-append (t ∷ ts) us [] more d h = absurd d
 decide-append (t ∷ ts) us (line ∷ lines) more d h = (d .0, λ e. decide-append ts us lines more (d .1 e) (λ z. h (rw e z)))
 
-pub refuses-exactly : (ts : List Test) (lines : List Line) (made back : State) → T (numbered ts) → DecideAll ts lines → RefusesExactly (answerOf ts made back) lines back
-refuses-exactly ts lines made back n d =
-    record {
-      first = first-line ts lines d;
-      accepts = none-applies (returned ts) lines (first-line ts lines d);
-      accepts-only = accepted-none ts lines n d;
-      gives-back = λ h. rw (ne-eqb (returned ts) accepted h);
-    }
+-- ---- numbers that go up
+
+-- each is above the one before it, and the first above n
+abbrev pub goesUp : ℕ → List ℕ → Bool
+goesUp n [] = true
+goesUp n (m ∷ ms) = both (ltb n m) (goesUp m ms)
+
+up-head : (n m : ℕ) (ms : List ℕ) → T (goesUp n (m ∷ ms)) → n < m
+up-head n m ms t = ltb→lt n m (both-left (ltb n m) (goesUp m ms) t)
+
+up-tail : (n m : ℕ) (ms : List ℕ) → T (goesUp n (m ∷ ms)) → T (goesUp m ms)
+up-tail n m ms t = both-right (ltb n m) (goesUp m ms) t
+
+none-lower-after : (n m : ℕ) (lines : List Line) → n ≤ m → T (goesUp m (numbersOf lines)) → NoneLower n lines
+none-lower-after n m [] h t = tt
+none-lower-after n m (line ∷ lines) h t =
+    let less = up-head m (line .number) (numbersOf lines) t in
+    (λ applies. omega arith, none-lower-after n (line .number) lines (omega arith) (up-tail m (line .number) (numbersOf lines) t))
+
+-- of lines whose numbers go up, the first that applies has the lowest number of all that apply
+pub lowest-first : (n m : ℕ) (lines : List Line) → T (goesUp m (numbersOf lines)) → NumberOfFirst n lines → NoneLower n lines
+lowest-first n m [] t r = tt
+lowest-first n m (line ∷ lines) t (inl r) =
+    (λ applies. omega (arith, r .1), none-lower-after n (line .number) lines (omega (arith, r .1)) (up-tail m (line .number) (numbersOf lines) t))
+lowest-first n m (line ∷ lines) t (inr r) =
+    (λ applies. absurd (r .0 applies), lowest-first n (line .number) lines (up-tail m (line .number) (numbersOf lines) t) (r .1))
+
+-- ---- demand 1 of a call
+
+module _ (ts : List Test) (lines : List Line) (numbers : List ℕ) (made back : State) where
+  pub refuses-exactly : T (numbered ts) → T (goesUp accepted numbers) → numbersOf lines ≡ numbers → DecideAll ts lines → RefusesExactly (answerOf ts made back) lines numbers back
+  refuses-exactly n up order d =
+      let first = first-line ts lines d in
+      record {
+        order = order;
+        first = first;
+        lowest = lowest-first (returned ts) accepted lines (subst (λ (l : List ℕ). T (goesUp accepted l)) (sym order) up) first;
+        accepts = none-applies (returned ts) lines first;
+        accepts-only = accepted-none ts lines n d;
+        gives-back = λ h. rw (ne-eqb (returned ts) accepted h);
+      }
 
 pub writes-nothing : (ts : List Test) (made held : List ℕ) → (returned ts ≡ accepted → ⊥) → written ts made held ≡ held
 writes-nothing ts made held h = rw (ne-eqb (returned ts) accepted h)
@@ -103,35 +137,40 @@ above-ℤ k a n = record { number = refl; yes = λ e. record { lt = subst T (sym
 -- ---- each test computes whether its line applies
 
 pub key-length-decides : (key : List ℕ) → Decides (keyLengthTest key) (keyLengthLine key)
-key-length-decides key = neither 1 (length key) 32 64
+key-length-decides key = neither refusedKeyLength (length key) 32 64
 
 pub iv-length-decides : (iv : List ℕ) → Decides (ivLengthTest iv) (ivLengthLine iv)
-iv-length-decides iv = is-not 2 (length iv) 32
+iv-length-decides iv = is-not refusedIvLength (length iv) 32
 
 size-mark-decides : (s : State) → Decides (sizeMarkTest s) (sizeMarkLine s)
-size-mark-decides s = neither 3 (s .size) 256 512
+size-mark-decides s = neither refusedSizeMark (s .size) 256 512
 
 position-decides : (s : State) → Decides (positionTest s) (positionLine s)
-position-decides s = above 4 limit (s .position)
+position-decides s = above refusedPositionAbove limit (s .position)
 
 pub target-decides : (n len : ℕ) → Decides (targetTest n len) (targetLine n len)
-target-decides n len = above 5 len n
+target-decides n len = above refusedTargetShorter len n
 
 pub window-decides : (len start count : ℕ) → Decides (windowTest len start count) (windowLine len start count)
-window-decides len start count = above 6 len (start + count)
+window-decides len start count = above refusedWindowPastEnd len (start + count)
 
 pub new-position-above-decides : (to : ℤ) → Decides (newPositionAboveTest to) (newPositionAboveLine to)
-new-position-above-decides to = above-ℤ 7 (pos limit) to
+new-position-above-decides to = above-ℤ refusedNewPositionAbove (pos limit) to
 
 pub new-position-on-decides : (s : State) (n : ℕ) → Decides (newPositionAboveTest (newPosition s (pos n))) (newPositionOnLine s n)
-new-position-on-decides s n = above 7 limit (s .position + n)
+new-position-on-decides s n = above refusedNewPositionAbove limit (s .position + n)
 
 pub new-position-below-decides : (to : ℤ) → Decides (newPositionBelowTest to) (newPositionBelowLine to)
-new-position-below-decides to = above-ℤ 8 to (pos 0)
+new-position-below-decides to = above-ℤ refusedNewPositionBelow to (pos 0)
 
 pub key-target-decides : (s : State) (len : ℕ) → Decides (keyTargetTest s len) (keyTargetLine s len)
-key-target-decides s len = is-not 9 len (s .size / 8)
+key-target-decides s len = is-not refusedKeyTargetLength len (s .size / 8)
 
 -- 3 and 4, before the rest
 pub state-decides : (s : State) {Rest : Type 0} → Rest → DecideThen Rest (stateTests s) (stateLines s)
 state-decides s rest = (size-mark-decides s, λ t3. (position-decides s, λ t4. rest))
+
+-- ---- the numbers
+
+pub table-numbers : TableNumbers
+table-numbers key iv s len n start to = refl

@@ -1,8 +1,8 @@
 -- Document 01, the table of returned numbers: each line but 10 as a proposition, and what demand 1 asks of a call that is refused by such lines.
 use mathlib.Core.Path.{_≡_}
 use mathlib.Core.Logic.{_⊎_}
-use mathlib.Core.List.{List, [], _∷_}
-use Prim.Native.Nat.{ℕ, _+_, _/_, _<_}
+use mathlib.Core.List.{List, [], _∷_, map}
+use Prim.Native.Nat.{ℕ, _+_, _/_, _<_, _≤_}
 use lib.IntN.{ℤ, pos}
 use lib.ListN.{length}
 use lib.Signed.{_<ℤ_}
@@ -63,22 +63,49 @@ stateLines s = sizeMarkLine s ∷ positionLine s ∷ []
 
 -- ---- a call that is refused by lines
 
--- "The lowest number that applies is returned, and otherwise 0": n is the number of the first line that applies, and 0 where none does
+-- the numbers of lines, in their order
+abbrev pub numbersOf : List Line → List ℕ
+numbersOf lines = map (λ line. line .number) lines
+
+-- n is the number of the first line that applies, and 0 where none does
 abbrev pub NumberOfFirst : ℕ → List Line → Type 0
 NumberOfFirst n [] = n ≡ accepted
 NumberOfFirst n (line ∷ lines) = (line .When × (n ≡ line .number)) ⊎ ((line .When → ⊥) × NumberOfFirst n lines)
+
+-- no line that applies has a number below n
+abbrev pub NoneLower : ℕ → List Line → Type 0
+NoneLower n [] = Unit
+NoneLower n (line ∷ lines) = (line .When → n ≤ line .number) × NoneLower n lines
 
 abbrev pub NoneApplies : List Line → Type 0
 NoneApplies [] = Unit
 NoneApplies (line ∷ lines) = (line .When → ⊥) × NoneApplies lines
 
--- a call that answers a, where these lines are tested and a refusal gives this state back
-pub record RefusesExactly (a : Answer) (lines : List Line) (back : State) : Type 0 where
+-- a call that answers a, where these lines are tested, whose numbers are these, and a refusal gives this state back
+pub record RefusesExactly (a : Answer) (lines : List Line) (numbers : List ℕ) (back : State) : Type 0 where
+  -- the call's tests as document 01 lists them, as in "Opening tests 1, 2"
+  pub order : numbersOf lines ≡ numbers
+  -- "The lowest number that applies is returned, and otherwise 0."
   pub first : NumberOfFirst (a .number) lines
+  pub lowest : NoneLower (a .number) lines
+  -- "All else is accepted"
   pub accepts : NoneApplies lines → a .number ≡ accepted
   pub accepts-only : a .number ≡ accepted → NoneApplies lines
+  -- "gives the state back as it came (a refused opening gives a blank one)"
   pub gives-back : (a .number ≡ accepted → ⊥) → a .state ≡ back
 
 -- "writes nothing": where the call is refused, a buffer that held these bytes is left with them
 abbrev pub WritesNothing : Answer → (held left : List ℕ) → Type 0
 WritesNothing a held left = (a .number ≡ accepted → ⊥) → left ≡ held
+
+-- ---- the numbers in the paper's numerals
+
+-- the table's first column, for the lines in its order; line 10 is in checking
+abbrev pub TableNumbers : Type 0
+TableNumbers =
+    (key iv : List ℕ) (s : State) (len n start : ℕ) (to : ℤ)
+    → numbersOf (
+    keyLengthLine key ∷ ivLengthLine iv ∷ sizeMarkLine s ∷ positionLine s ∷ targetLine n len ∷ windowLine len start n ∷ newPositionAboveLine to
+    ∷ newPositionBelowLine to ∷ keyTargetLine s len ∷ []
+    )
+    ≡ 1 ∷ 2 ∷ 3 ∷ 4 ∷ 5 ∷ 6 ∷ 7 ∷ 8 ∷ 9 ∷ []

@@ -14,6 +14,7 @@ use Rattle.applying.specs.Applying.{withKeystream, applyingTests, window
 use Rattle.applying.specs.AnyStep.{advancedBy, withKeystreamBy}
 use Rattle.applying.specs.AnyStepLaws.{tablesStep, AnyStepLaws}
 use Rattle.applying.proofs.Portions.{with-keystream-is, advanced-is}
+use Rattle.applying.proofs.ApplyingLaws.{portion-refuses, window-refuses}
 
 tables-step : tablesStep ≡ next Ordinary
 tables-step = ap (λ (f : Kind → Registers → Registers). f Ordinary) (generator-laws .next-in-tables)
@@ -27,6 +28,8 @@ with-keystream s xs = ap (λ (f : Registers → Registers). withKeystreamBy f s 
 pub any-step-laws : AnyStepLaws
 any-step-laws =
     record {
+      applying-with-refuses = λ tables s source target. portion-refuses s _ _ target (length source) (length target);
+      window-with-refuses = λ tables s buffer start count. window-refuses s _ _ buffer (length buffer) start count;
       applied-by = λ s source target. ap (λ (t : State). answerOf (applyingTests s (length source) (length target)) t s) (advanced s (length source));
       applied-target-by =
           λ s source target. ap (λ (l : List ℕ). written (applyingTests s (length source) (length target)) (l ++ drop (length source) target) target) (with-keystream s source);

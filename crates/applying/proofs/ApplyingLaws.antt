@@ -1,7 +1,7 @@
 -- The laws of portions and windows that specs/ApplyingLaws.antt states.
 use mathlib.Core.Path.{_≡_, refl, sym, ap, ap₂, _∙_}
 use mathlib.Core.Bool.{Bool, true, false, cond}
-use mathlib.Core.List.{List, [], _++_, append-assoc, append-nil}
+use mathlib.Core.List.{List, [], _∷_, _++_, append-assoc, append-nil}
 use Prim.Native.Nat.{ℕ, _+_, _-_, _≤_}
 use native.Mathlib.Nat.{add-zero}
 use native.Mathlib.Omega.{arith}
@@ -14,14 +14,14 @@ use Rattle.masking.specs.Masking.{masked}
 use Rattle.masking.proofs.Masked.{masked-length, masked-append, masked-drop, masked-masked}
 use Rattle.answers.specs.declared.Answer.{Answer}
 use Rattle.answers.specs.Numbers.{accepted}
-use Rattle.answers.specs.Tests.{Test, targetTest, windowTest, returned, WellFormed}
-use Rattle.answers.specs.Lines.{Line, targetLine, windowLine}
+use Rattle.answers.specs.Tests.{Test, targetTest, windowTest, returned, WellFormed, answerOf, written}
+use Rattle.answers.specs.Lines.{Line, targetLine, windowLine, RefusesExactly, WritesNothing}
 use Rattle.answers.proofs.Tests.{position-le}
 use Rattle.answers.proofs.Lines.{Decides, DecideAll, refuses-exactly, writes-nothing, state-decides, target-decides, window-decides, new-position-on-decides}
 use Rattle.positions.specs.Positions.{movedTo}
 use Rattle.positions.proofs.PositionLaws.{position-laws}
 use Rattle.applying.specs.Applying.{keystreamByteOf, withKeystream, advancingTests, advancingLines, applyingTests, applyingLines, applied, appliedTarget, windowTests, windowLines, windowed, windowedBuffer}
-use Rattle.applying.specs.ApplyingLaws.{ApplyingRefusals, WindowRefusals, TwoPortions, Restored, ApplyingLaws}
+use Rattle.applying.specs.ApplyingLaws.{TwoPortions, Restored, ApplyingLaws}
 use Rattle.applying.proofs.Portions.{accepts}
 use Rattle.applying.proofs.AcceptedPortions.{PortionFits, keystream-of-key, with-keystream-on, accepted-portion, portion-answer, portion-bytes, portion-long, portion-front, portion-back, later-portion}
 use Rattle.applying.proofs.Ciphers.{portion-ciphers, window-ciphers, portion-leads, window-leads}
@@ -31,21 +31,26 @@ use Rattle.applying.proofs.Ciphers.{portion-ciphers, window-ciphers, po
 advancing-decides : (s : State) (fit : Test) (line : Line) (n : ℕ) → Decides fit line → DecideAll (advancingTests s fit n) (advancingLines s line n)
 advancing-decides s fit line n d = state-decides s (d, λ t. (new-position-on-decides s n, λ t7. tt))
 
-applying-refuses : ApplyingRefusals
-applying-refuses s source target =
-    let n = length source in
-    let len = length target in
-    let tests = applyingTests s n len in
-    (refuses-exactly tests (applyingLines s n len) _ s tt (advancing-decides s (targetTest n len) (targetLine n len) n (target-decides n len)), writes-nothing tests _ target)
+-- whatever an accepted call makes and writes
+module _ (s made : State) (bytes held : List ℕ) where
+  pub portion-refuses : (n len : ℕ) → let tests = applyingTests s n len in
+      RefusesExactly (answerOf tests made s) (applyingLines s n len) (3 ∷ 4 ∷ 5 ∷ 7 ∷ []) s × WritesNothing (answerOf tests made s) held (written tests bytes held)
+  portion-refuses n len =
+      let tests = applyingTests s n len in (
+        refuses-exactly tests (applyingLines s n len) (3 ∷ 4 ∷ 5 ∷ 7 ∷ []) made s tt tt refl
+            (advancing-decides s (targetTest n len) (targetLine n len) n (target-decides n len)),
+        writes-nothing tests bytes held,
+      )
 
-window-refuses : WindowRefusals
-window-refuses s buffer start count =
-    let len = length buffer in
-    let tests = windowTests s len start count in (
-      refuses-exactly tests (windowLines s len start count) _ s tt
-          (advancing-decides s (windowTest len start count) (windowLine len start count) count (window-decides len start count)),
-      writes-nothing tests _ buffer,
-    )
+  pub window-refuses : (len start count : ℕ) → let tests = windowTests s len start count in
+      RefusesExactly (answerOf tests made s) (windowLines s len start count) (3 ∷ 4 ∷ 6 ∷ 7 ∷ []) s
+      × WritesNothing (answerOf tests made s) held (written tests bytes held)
+  window-refuses len start count =
+      let tests = windowTests s len start count in (
+        refuses-exactly tests (windowLines s len start count) (3 ∷ 4 ∷ 6 ∷ 7 ∷ []) made s tt tt refl
+            (advancing-decides s (windowTest len start count) (windowLine len start count) count (window-decides len start count)),
+        writes-nothing tests bytes held,
+      )
 
 -- ---- portions compose
 
@@ -166,8 +171,8 @@ no-bytes s target ok =
 pub applying-laws : ApplyingLaws
 applying-laws =
     record {
-      applying-refuses = applying-refuses;
-      window-refuses = window-refuses;
+      applying-refuses = λ s source target. portion-refuses s _ _ target (length source) (length target);
+      window-refuses = λ s buffer start count. window-refuses s _ _ buffer (length buffer) start count;
       keystream-of-key = keystream-of-key;
       portion-ciphers = portion-ciphers;
       window-ciphers = window-ciphers;

@@ -1,7 +1,7 @@
 -- What is proved of portions and windows: proofs/ApplyingLaws.antt has `applying-laws : ApplyingLaws`.
 -- States hold any registers.
 use mathlib.Core.Path.{_≡_}
-use mathlib.Core.List.{List, [], _++_}
+use mathlib.Core.List.{List, [], _∷_, _++_}
 use Prim.Native.Nat.{ℕ, _+_, _≤_}
 use lib.IntN.{pos}
 use lib.ListN.{length, take, drop}
@@ -14,17 +14,18 @@ use Rattle.positions.specs.Positions.{movedTo}
 use Rattle.positions.specs.PositionLaws.{LedTo}
 use Rattle.applying.specs.Applying.{keystreamByte, keystreamByteOf, applyingLines, applied, appliedTarget, windowLines, windowed, windowedBuffer, Ciphered}
 
--- demand 1, of applying and of the window: for every state, source, target and buffer, every start and count
+-- demand 1, of applying and of the window: for every state, source, target and buffer, every start and count. "applying 3, 4, 5, 7; the window 3, 4,
+-- 6, 7"
 abbrev pub ApplyingRefusals : Type 0
 ApplyingRefusals =
     (s : State) (source target : List ℕ)
-    → RefusesExactly (applied s source target) (applyingLines s (length source) (length target)) s
+    → RefusesExactly (applied s source target) (applyingLines s (length source) (length target)) (3 ∷ 4 ∷ 5 ∷ 7 ∷ []) s
     × WritesNothing (applied s source target) target (appliedTarget s source target)
 
 abbrev pub WindowRefusals : Type 0
 WindowRefusals =
     (s : State) (buffer : List ℕ) (start count : ℕ)
-    → RefusesExactly (windowed s buffer start count) (windowLines s (length buffer) start count) s
+    → RefusesExactly (windowed s buffer start count) (windowLines s (length buffer) start count) (3 ∷ 4 ∷ 6 ∷ 7 ∷ []) s
     × WritesNothing (windowed s buffer start count) buffer (windowedBuffer s buffer start count)
 
 -- a portion xs, then a portion ys over what follows it in the target, against both in one portion

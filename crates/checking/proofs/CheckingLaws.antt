@@ -20,8 +20,9 @@ use Rattle.answers.specs.Lines.{NoneApplies}
 use Rattle.answers.proofs.Lines.{Decides, DecideAll, first-line, none-applies, decide-append, refuses-exactly, writes-nothing, iv-length-decides, state-decides, key-target-decides}
 use Rattle.opening.specs.Opening.{Leads}
 use Rattle.opening.proofs.Opened.{key-of-size, both-fit, key-and-iv}
+use Rattle.opening.proofs.OpeningLaws.{opening-laws}
 use Rattle.checking.specs.Checking.{loadedOf, keyOf, loadsAgain, noKeyLeadsTest, noKeyLeadsLine, testsBefore10, linesBefore10, checkingTests, checkingLines, checked, checkedTarget}
-use Rattle.checking.specs.CheckingLaws.{CheckingRefusals, Stored, StoredChecked, CheckingLaws}
+use Rattle.checking.specs.CheckingLaws.{CheckingRefusals, Stored, StoredChecked, ChecksExactly, CheckingLaws}
 use Rattle.checking.proofs.Checks.{Checkable, all-fit, accepted-checkable, registers-same, same-registers, decided}
 
 -- ---- a key that leads to the state is found
@@ -108,7 +109,7 @@ stored-checked s iv target words bytes none =
     record {
       accepts = λ key l. leads-accepted s iv target passed key l .0;
       accepts-only = accepts-only (loadsAgain s iv) refl;
-      only-one = λ key key′ l l′. sym (key-found s iv key l) ∙ key-found s iv key′ l′;
+      only-one = λ key key′. opening-laws .one-key-leads key key′ iv s;
       handed-back = λ key l. leads-accepted s iv target passed key l .1;
       refuses = refuses (loadsAgain s iv) refl;
     }
@@ -136,9 +137,14 @@ leads-checked key iv s target l ok e =
 refuses : CheckingRefusals
 refuses s iv target words bytes =
     let tests = checkingTests s iv (length target) in (
-      refuses-exactly tests (checkingLines s iv (length target)) s s tt (checking-decided s iv target words bytes),
+      refuses-exactly tests (checkingLines s iv (length target)) (2 ∷ 3 ∷ 4 ∷ 9 ∷ 10 ∷ []) s s tt tt refl (checking-decided s iv target words bytes),
       writes-nothing tests (keyOf s iv) target,
     )
 
 pub checking-laws : CheckingLaws
 checking-laws = record { refuses = refuses; stored-checked = stored-checked; unaltered = unaltered; leads-checked = leads-checked }
+
+-- ---- of one check
+
+pub checks-exactly : (s : State) (iv target : List ℕ) → EighteenWords (registersOf s) → Bytes iv → ChecksExactly s iv target
+checks-exactly s iv target words bytes = record { refuses = checking-laws .refuses s iv target words bytes; stored = checking-laws .stored-checked s iv target words bytes }

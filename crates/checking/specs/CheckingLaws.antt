@@ -1,6 +1,6 @@
 -- What is proved of the check of a stored state: proofs/CheckingLaws.antt has `checking-laws : CheckingLaws`.
 use mathlib.Core.Path.{_≡_}
-use mathlib.Core.List.{List}
+use mathlib.Core.List.{List, [], _∷_}
 use Prim.Native.Nat.{ℕ}
 use lib.ListN.{length}
 use Rattle.generator.specs.declared.State.{State}
@@ -12,11 +12,15 @@ use Rattle.answers.specs.Lines.{NoneApplies, RefusesExactly, WritesNothing}
 use Rattle.opening.specs.Opening.{Leads}
 use Rattle.checking.specs.Checking.{linesBefore10, checkingLines, checked, checkedTarget}
 
--- demand 1, of checking: for every key target, a state whose registers are any eighteen words, and an IV of any bytes
+-- demand 1, of one check: "checking 2, 3, 4, 9, 10"
+abbrev pub RefusesCheck : (s : State) (iv target : List ℕ) → Type 0
+RefusesCheck s iv target =
+    RefusesExactly (checked s iv target) (checkingLines s iv (length target)) (2 ∷ 3 ∷ 4 ∷ 9 ∷ 10 ∷ []) s
+    × WritesNothing (checked s iv target) target (checkedTarget s iv target)
+
+-- for every key target, a state whose registers are any eighteen words, and an IV of any bytes
 abbrev pub CheckingRefusals : Type 0
-CheckingRefusals =
-    (s : State) (iv target : List ℕ) → EighteenWords (registersOf s) → Bytes iv
-    → RefusesExactly (checked s iv target) (checkingLines s iv (length target)) s × WritesNothing (checked s iv target) target (checkedTarget s iv target)
+CheckingRefusals = (s : State) (iv target : List ℕ) → EighteenWords (registersOf s) → Bytes iv → RefusesCheck s iv target
 
 -- demand 3, of a state, an IV and a key target to which none of 2, 3, 4 and 9 applies
 pub record Stored (s : State) (iv target : List ℕ) : Type 0 where
@@ -32,6 +36,12 @@ pub record Stored (s : State) (iv target : List ℕ) : Type 0 where
 -- "Whatever its registers hold and at whatever point it claims to be": any eighteen words and any position up to the last. The IV is any bytes.
 abbrev pub StoredChecked : Type 0
 StoredChecked = (s : State) (iv target : List ℕ) → EighteenWords (registersOf s) → Bytes iv → NoneApplies (linesBefore10 s iv (length target)) → Stored s iv target
+
+-- demands 1 and 3, of one check. The contract of `check` says it of every state that a program holds and every `&[u8]`: such a state has eighteen words
+-- (`owned-words` of generator/proofs/Owned.antt) and such a slice has bytes (`owned-bytes` of loading/proofs/Owned.antt).
+pub record ChecksExactly (s : State) (iv target : List ℕ) : Type 0 where
+  pub refuses : RefusesCheck s iv target
+  pub stored : NoneApplies (linesBefore10 s iv (length target)) → Stored s iv target
 
 pub record CheckingLaws : Type 0 where
   pub refuses : CheckingRefusals

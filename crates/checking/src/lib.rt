@@ -4,6 +4,7 @@ ghost use Rattle.generator.specs.Registers.{registersOf, withRegisters};
 ghost use Rattle.loading.specs.Loading.{load};
 ghost use Rattle.answers.specs.Tests.{returned};
 ghost use Rattle.checking.specs.Checking.{loadedOf, sameWords, sameRegisters, testsBefore10, checked, checkedTarget};
+ghost use Rattle.checking.specs.CheckingLaws.{ChecksExactly};
 use answers::Answer;
 use answers::numbers;
 use answers::refused;
@@ -80,6 +81,7 @@ fn is_loading(t: State, key: &[u8], iv: &[u8]) -> bool
 pub fn check(s: State, iv: &[u8], target: &mut [u8]) -> Answer
     ensures { λ r. ⌜ r ≡ checked s (now (iv .entry)) (now (target .entry)) ⌝ }
     ensures { λ _. ⌜ now (target .exit) ≡ checkedTarget s (now (iv .entry)) (now (target .entry)) ⌝ }
+    ensures { λ _. ⌜ ChecksExactly s (now (iv .entry)) (now (target .entry)) ⌝ }
 {
     let n = target.len();
     let number = checking_number(s, iv, n);

@@ -116,9 +116,9 @@ module _ (input : List ℕ) where
       no : n < 33 + k → length (ivIn input) ≡ 32 → ⊥
       no h e = absurd (omega (arith, iv-length, e))
 
-  pub header : RefusesExactly (started input) (headerLines input) blank
+  pub header : RefusesExactly (started input) (headerLines input) (1 ∷ 2 ∷ []) blank
   unfolding started
-  header = refuses-exactly (openingTests (keyIn input) (ivIn input)) (headerLines input) (openedState (keyIn input) (ivIn input)) blank tt (line-1, λ t1. (line-2, λ t2. tt))
+  header = refuses-exactly (openingTests (keyIn input) (ivIn input)) (headerLines input) (1 ∷ 2 ∷ []) (openedState (keyIn input) (ivIn input)) blank tt tt refl (line-1, λ t1. (line-2, λ t2. tt))
 
   -- ---- the parts of an input that is not refused
 

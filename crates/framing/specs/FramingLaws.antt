@@ -21,7 +21,7 @@ pub record FramingLaws : Type 0 where
   -- "one byte giving the key length, the key, 32 IV bytes, data to the end"
   pub parts : (input : List ℕ) → started input .number ≡ accepted → length (keyIn input) ∷ (keyIn input ++ (ivIn input ++ dataIn input)) ≡ input
   -- what is refused before the data, with which number; empty input is too short for the key
-  pub header : (input : List ℕ) → RefusesExactly (started input) (headerLines input) blank
+  pub header : (input : List ℕ) → RefusesExactly (started input) (headerLines input) (1 ∷ 2 ∷ []) blank
   -- the header is enough: its first byte and as many after it as `header_rest` says, or the whole input where that is shorter
   pub header-alone : (input : List ℕ) → started (take (33 + keyLengthIn input) input) ≡ started input
   -- however the data up to the limit are divided into pieces, what the calls leave in them is the data with the keystream applied

@@ -62,11 +62,8 @@ generator-laws =
       next-previous = next-previous;
       back-forward = λ kind. iterate-undone (previous-next kind);
       forward-back = λ kind. iterate-undone (next-previous kind);
-      forward-one-to-one = λ kind n. undone-one-to-one (iterate-undone (previous-next kind) n);
-      backward-one-to-one = λ kind n. undone-one-to-one (iterate-undone (next-previous kind) n);
-      forward-compose = λ kind. iterate-add (next kind);
-      backward-compose = λ kind. iterate-add (previous kind);
-      next-by-tables = next-by-tables;
+      walks-one-to-one = λ kind n. (undone-one-to-one (iterate-undone (previous-next kind) n), undone-one-to-one (iterate-undone (next-previous kind) n));
+      walks-compose = iterate-add;
       next-in-tables = in-places ∙ next-by-tables;
       previous-by-tables =
           ap (λ (t : ℕ → ℕ). previousWith t (alphaInverseTimesWith (at alphaInverseTable))) inverse-table-path

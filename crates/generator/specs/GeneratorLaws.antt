@@ -2,12 +2,12 @@
 -- Each law is said once for both kinds of step, and of all registers: sixteen cells and two registers that hold any words.
 use mathlib.Core.Path.{_≡_}
 use Prim.Native.Nat.{ℕ, _+_}
-use Rattle.galois.specs.Alpha.{alphaTable, alphaInverseTable}
+use Rattle.galois.specs.Alpha.{alphaInverseTable}
 use Rattle.sboxes.specs.Sboxes.{piInverse}
-use Rattle.substitution.specs.Substitution.{substitutionTables, matrixInverseTables, stepTables}
+use Rattle.substitution.specs.Substitution.{matrixInverseTables, stepTables}
 use Rattle.generator.specs.declared.Kind.{Kind}
 use Rattle.generator.specs.Registers.{Registers, EighteenWords, next, previous, iterate}
-use Rattle.generator.specs.Functions.{nextBy, previousBy, nextIn}
+use Rattle.generator.specs.Functions.{previousBy, nextIn}
 
 -- f keeps eighteen words such, and g undoes it there
 pub record UndoneBy (g f : Registers → Registers) : Type 0 where
@@ -25,13 +25,10 @@ pub record GeneratorLaws : Type 0 where
   -- so do walks of n steps, for every n
   pub back-forward : (kind : Kind) (n : ℕ) → UndoneBy (iterate (previous kind) n) (iterate (next kind) n)
   pub forward-back : (kind : Kind) (n : ℕ) → UndoneBy (iterate (next kind) n) (iterate (previous kind) n)
-  -- and walks of n steps are one-to-one, for every n
-  pub forward-one-to-one : (kind : Kind) (n : ℕ) → OneToOne (iterate (next kind) n)
-  pub backward-one-to-one : (kind : Kind) (n : ℕ) → OneToOne (iterate (previous kind) n)
-  -- walks compose
-  pub forward-compose : (kind : Kind) (m n : ℕ) (r : Registers) → iterate (next kind) (m + n) r ≡ iterate (next kind) n (iterate (next kind) m r)
-  pub backward-compose : (kind : Kind) (m n : ℕ) (r : Registers) → iterate (previous kind) (m + n) r ≡ iterate (previous kind) n (iterate (previous kind) m r)
+  -- and walks of n steps, on and back, are one-to-one, for every n
+  pub walks-one-to-one : (kind : Kind) (n : ℕ) → OneToOne (iterate (next kind) n) × OneToOne (iterate (previous kind) n)
+  -- walks compose, whatever the step
+  pub walks-compose : (f : Registers → Registers) (m n : ℕ) (r : Registers) → iterate f (m + n) r ≡ iterate f n (iterate f m r)
   -- with the tables of T, α and their inverses, the functions' steps are these
-  pub next-by-tables : nextBy substitutionTables alphaTable alphaInverseTable ≡ next
   pub next-in-tables : nextIn stepTables ≡ next
   pub previous-by-tables : previousBy matrixInverseTables piInverse alphaInverseTable ≡ previous

@@ -13,9 +13,9 @@ use Rattle.galois.proofs.Computed.{both, both-left, both-right, allBelow, below
 use Rattle.generator.specs.declared.Kind.the-variants.{Ordinary, Initial}
 use Rattle.generator.specs.Registers.{Registers, EighteenWords, next, previous, iterate}
 use Rattle.generator.specs.GeneratorLaws.{UndoneBy}
-use Rattle.generator.proofs.Iterate.{undone-compose, undone-one-to-one}
+use Rattle.generator.proofs.Iterate.{undone-compose}
 use Rattle.generator.proofs.GeneratorLaws.{generator-laws}
-use Rattle.loading.specs.Loading.{Bytes, KeyAndIv, wordOf, Row, rowsOf, loadedCell, loadedCells, sizeMark, load, initialised, registersAt}
+use Rattle.loading.specs.Loading.{Bytes, KeyAndIv, wordOf, Row, rowsOf, loadedCell, loadedCells, sizeMark, load, initialSteps, initialised, registersAt}
 use Rattle.loading.specs.Recovery.{loadedFrom, recoveredWord, recoveredKey}
 use Rattle.loading.specs.LoadingLaws.{OneToOneInBoth, LoadingLaws}
 use Rattle.loading.specs.WorkedTable.{zeros, key11, iv11}
@@ -137,23 +137,37 @@ not-one-to-one-in-both-512 h =
 walk-back-undoes : (n : ℕ) → UndoneBy (loadedFrom n) (λ r. iterate (next Ordinary) n (initialised r))
 unfolding initialised loadedFrom
 walk-back-undoes n =
-    subst (λ (m : ℕ). UndoneBy (λ r. iterate (previous Initial) 32 (iterate (previous Ordinary) m r)) (λ r. iterate (next Ordinary) n (initialised r))) (sym (add-one n))
-    (undone-compose (undone-compose (generator-laws .back-forward Initial 32) (generator-laws .previous-next Ordinary)) (generator-laws .back-forward Ordinary n))
+    subst (λ (m : ℕ). UndoneBy (λ r. iterate (previous Initial) initialSteps (iterate (previous Ordinary) m r)) (λ r. iterate (next Ordinary) n (initialised r))) (sym (add-one n))
+    (undone-compose (undone-compose (generator-laws .back-forward Initial initialSteps) (generator-laws .previous-next Ordinary)) (generator-laws .back-forward Ordinary n))
 
 walk-back-undone : (n : ℕ) → UndoneBy (λ r. iterate (next Ordinary) n (initialised r)) (loadedFrom n)
 unfolding initialised loadedFrom
 walk-back-undone n =
-    subst (λ (m : ℕ). UndoneBy (λ r. iterate (next Ordinary) n (initialised r)) (λ r. iterate (previous Initial) 32 (iterate (previous Ordinary) m r))) (sym (add-one n))
-    (undone-compose (undone-compose (generator-laws .forward-back Ordinary n) (generator-laws .next-previous Ordinary)) (generator-laws .forward-back Initial 32))
+    subst (λ (m : ℕ). UndoneBy (λ r. iterate (next Ordinary) n (initialised r)) (λ r. iterate (previous Initial) initialSteps (iterate (previous Ordinary) m r))) (sym (add-one n))
+    (undone-compose (undone-compose (generator-laws .forward-back Ordinary n) (generator-laws .next-previous Ordinary)) (generator-laws .forward-back Initial initialSteps))
 
--- registers after n steps that are the same were loaded alike
+-- registers after n steps that are the same were loaded alike: each walk on the way is one-to-one
 loaded-alike : (key iv key′ iv′ : List ℕ) → KeyAndIv key iv → KeyAndIv key′ iv′ → (n : ℕ) → registersAt key iv n ≡ registersAt key′ iv′ n → load key iv ≡ load key′ iv′
-unfolding registersAt
-loaded-alike key iv key′ iv′ o o′ n e = undone-one-to-one (walk-back-undoes n) (load key iv) (load key′ iv′) (loads-words key iv o) (loads-words key′ iv′ o′) e
+unfolding initialised registersAt
+loaded-alike key iv key′ iv′ o o′ n e =
+    let a = load key iv in
+    let b = load key′ iv′ in
+    let wa = loads-words key iv o in
+    let wb = loads-words key′ iv′ o′ in
+    let after-initial = generator-laws .back-forward Initial initialSteps .keeps in
+    let after-one = generator-laws .back-forward Ordinary 1 .keeps in
+    let ia = iterate (next Initial) initialSteps a in
+    let ib = iterate (next Initial) initialSteps b in
+    generator-laws .walks-one-to-one Initial initialSteps .0 a b wa wb
+    (generator-laws .walks-one-to-one Ordinary 1 .0 ia ib (after-initial a wa) (after-initial b wb)
+    (generator-laws .walks-one-to-one Ordinary n .0 (next Ordinary ia) (next Ordinary ib) (after-one ia (after-initial a wa)) (after-one ib (after-initial b wb)) e))
 
 pub loading-laws : LoadingLaws
+unfolding wordOf
 loading-laws =
     record {
+      highest-first-256 = refl;
+      highest-first-512 = refl;
       loads-words = loads-words;
       recovers = recovers;
       one-to-one-in-key = one-to-one-in-key;

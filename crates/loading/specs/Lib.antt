@@ -3,3 +3,4 @@ pub mod Loading
 pub mod Recovery
 pub mod LoadingLaws
 pub mod WorkedTable
+pub mod FirstWords

@@ -75,8 +75,11 @@ unfoldable pub load : (key iv : List ℕ) → Registers
 load key iv = record { cells = loadedCells (rowsOf (sizeMark key)) (wordOf key) (wordOf iv); r1 = 0; r2 = 0 }
 
 -- "Then 32 steps of initialisation and 1 ordinary step give S_0"
+abbrev pub initialSteps : ℕ
+initialSteps = 32
+
 unfoldable pub initialised : Registers → Registers
-initialised r = next Ordinary (iterate (next Initial) 32 r)
+initialised r = next Ordinary (iterate (next Initial) initialSteps r)
 
 -- "S_n is n ordinary steps later": "for every whole number n, past the last position too"
 unfoldable pub registersAt : (key iv : List ℕ) → ℕ → Registers

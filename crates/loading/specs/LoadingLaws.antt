@@ -1,12 +1,13 @@
 -- What is proved of the loading: proofs/LoadingLaws.antt has `loading-laws : LoadingLaws`.
 use mathlib.Core.Path.{_≡_}
-use mathlib.Core.List.{List}
+use mathlib.Core.List.{List, [], _∷_, map}
 use Prim.Native.Nat.{ℕ}
 use lib.ListN.{length}
+use Rattle.galois.specs.Words.{tabulate}
 use Rattle.generator.specs.declared.Kind.the-variants.{Ordinary}
 use Rattle.generator.specs.Registers.{EighteenWords, next, iterate}
 use Rattle.generator.specs.GeneratorLaws.{UndoneBy}
-use Rattle.loading.specs.Loading.{Bytes, KeyAndIv, sizeMark, load, initialised, registersAt}
+use Rattle.loading.specs.Loading.{Bytes, KeyAndIv, wordOf, sizeMark, load, initialised, registersAt}
 use Rattle.loading.specs.Recovery.{loadedFrom, recoveredKey}
 
 -- of keys with this size mark, the loading is one-to-one in key and IV together
@@ -15,6 +16,13 @@ OneToOneInBoth size =
     (key iv key′ iv′ : List ℕ) → KeyAndIv key iv → KeyAndIv key′ iv′ → sizeMark key ≡ size → sizeMark key′ ≡ size → load key iv ≡ load key′ iv′ → (key ≡ key′) × (iv ≡ iv′)
 
 pub record LoadingLaws : Type 0 where
+  -- "Key bytes hold the highest word first (K3 or K7), each word most significant byte first": of the bytes 00 01 .. 1F, and of 00 01 .. 3F
+  pub highest-first-256 :
+      map (wordOf (tabulate 32 (λ i. i))) (3 ∷ 2 ∷ 1 ∷ 0 ∷ []) ≡ 0x0001020304050607 ∷ 0x08090A0B0C0D0E0F ∷ 0x1011121314151617 ∷ 0x18191A1B1C1D1E1F ∷ []
+  pub highest-first-512 :
+      map (wordOf (tabulate 64 (λ i. i))) (7 ∷ 6 ∷ 5 ∷ 4 ∷ 3 ∷ 2 ∷ 1 ∷ 0 ∷ [])
+      ≡ 0x0001020304050607 ∷ 0x08090A0B0C0D0E0F ∷ 0x1011121314151617 ∷ 0x18191A1B1C1D1E1F
+      ∷ 0x2021222324252627 ∷ 0x28292A2B2C2D2E2F ∷ 0x3031323334353637 ∷ 0x38393A3B3C3D3E3F ∷ []
   -- sixteen cells and two registers are loaded, and all hold words
   pub loads-words : (key iv : List ℕ) → KeyAndIv key iv → EighteenWords (load key iv)
   -- with the IV known the key comes back from the cells that it loads, for both sizes, so the loading is one-to-one in the key

@@ -8,11 +8,11 @@ use lib.ListN.{length}
 use Rattle.galois.specs.Words.{byte, tabulate, at}
 use Rattle.generator.specs.declared.Kind.the-variants.{Ordinary, Initial}
 use Rattle.generator.specs.Registers.{Registers, previous, iterate}
-use Rattle.loading.specs.Loading.{wordOf, complement, Row, K, notK, KxorIV, rowsOf}
+use Rattle.loading.specs.Loading.{wordOf, complement, initialSteps, Row, K, notK, KxorIV, rowsOf}
 
 -- "walks back floor(p/8) + 1 ordinary steps and 32 of initialisation": from the registers of S_n to those that were loaded
 unfoldable pub loadedFrom : (n : ℕ) → Registers → Registers
-loadedFrom n r = iterate (previous Initial) 32 (iterate (previous Ordinary) (n + 1) r)
+loadedFrom n r = iterate (previous Initial) initialSteps (iterate (previous Ordinary) (n + 1) r)
 
 -- the number of the key word that stands in a row
 abbrev pub keyIndex : Row → ℕ

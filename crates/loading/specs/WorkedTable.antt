@@ -24,7 +24,7 @@ abbrev pub zeros : ℕ → List ℕ
 zeros n = replicate n 0
 
 -- the eight bytes of a word below 256, most significant first
-abbrev wordBytes : ℕ → List ℕ
+abbrev pub wordBytes : ℕ → List ℕ
 wordBytes w = zeros 7 ++ (w ∷ [])
 
 -- "256, key and IV all zero"

@@ -43,7 +43,7 @@ accepted-ends s d e =
 
 refuses : MovingRefusals
 refuses s d =
-    refuses-exactly (movingTests s d) (movingLines s d) _ s tt
+    refuses-exactly (movingTests s d) (movingLines s d) (3 ∷ 4 ∷ 7 ∷ 8 ∷ []) _ s tt tt refl
     (state-decides s (new-position-above-decides (newPosition s d), λ t7. (new-position-below-decides (newPosition s d), λ t8. tt)))
 
 moved-state : (s : State) (distance : ℤ) (e : moved s distance .number ≡ accepted) → moved s distance .state ≡ movedTo s (accepted-ends s distance e .to)

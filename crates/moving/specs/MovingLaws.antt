@@ -1,7 +1,7 @@
 -- What is proved of moves: proofs/MovingLaws.antt has `moving-laws : MovingLaws`.
 -- States hold any registers: sixteen cells and two registers that are words, nothing else asked.
 use mathlib.Core.Path.{_≡_}
-use mathlib.Core.List.{List}
+use mathlib.Core.List.{List, [], _∷_}
 use Prim.Native.Nat.{ℕ}
 use lib.IntN.{ℤ, pos, negℤ}
 use Rattle.generator.specs.declared.State.{State}
@@ -12,9 +12,9 @@ use Rattle.answers.specs.Lines.{RefusesExactly}
 use Rattle.opening.specs.Opening.{Leads}
 use Rattle.moving.specs.Moving.{movingLines, moved}
 
--- demand 1, of moving: for every state and distance. It is lent nothing to write.
+-- demand 1, of moving: for every state and distance. "moving 3, 4, 7, 8". It is lent nothing to write.
 abbrev pub MovingRefusals : Type 0
-MovingRefusals = (s : State) (distance : ℤ) → RefusesExactly (moved s distance) (movingLines s distance) s
+MovingRefusals = (s : State) (distance : ℤ) → RefusesExactly (moved s distance) (movingLines s distance) (3 ∷ 4 ∷ 7 ∷ 8 ∷ []) s
 
 pub record MovingLaws : Type 0 where
   pub refuses : MovingRefusals

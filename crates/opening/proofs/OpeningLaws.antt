@@ -1,7 +1,8 @@
 -- The laws of opening that specs/OpeningLaws.antt states.
-use mathlib.Core.Path.{_≡_, refl, sym, subst}
-use mathlib.Core.List.{List}
-use Prim.Native.Nat.{ℕ}
+use mathlib.Core.Path.{_≡_, refl, sym, _∙_, subst}
+use mathlib.Core.List.{List, [], _∷_}
+use Prim.Native.Nat.{ℕ, _/_}
+use Rattle.generator.specs.declared.State.{State}
 use Rattle.loading.specs.Loading.{sizeMark}
 use Rattle.loading.proofs.LoadingLaws.{loading-laws, size-of}
 use Rattle.answers.specs.Tests.{WellFormed}
@@ -13,7 +14,7 @@ use Rattle.opening.proofs.Opened.{key-and-iv}
 
 refuses : OpeningRefusals
 refuses key iv =
-    refuses-exactly (openingTests key iv) (openingLines key iv) (openedState key iv) blank tt (key-length-decides key, λ t1. (iv-length-decides iv, λ t2. tt))
+    refuses-exactly (openingTests key iv) (openingLines key iv) (1 ∷ 2 ∷ []) (openedState key iv) blank tt tt refl (key-length-decides key, λ t1. (iv-length-decides iv, λ t2. tt))
 
 module _ (key iv : List ℕ) (o : OpeningAccepts key iv) where
   opened-state : opened key iv .state ≡ openedState key iv
@@ -28,6 +29,11 @@ module _ (key iv : List ℕ) (o : OpeningAccepts key iv) where
   opened-position : opened key iv .state .position ≡ 0
   opened-position = rw (o .opens)
 
+one-key-leads : (key key′ iv : List ℕ) (s : State) → Leads key iv s → Leads key′ iv s → key ≡ key′
+one-key-leads key key′ iv s l l′ =
+    loading-laws .registers-one-to-one-in-key key key′ iv (key-and-iv (l .opening)) (key-and-iv (l′ .opening)) (sym (l .size) ∙ l′ .size) (s .position / 8)
+    (sym (l .registers) ∙ l′ .registers)
+
 openings-differ : OpeningsDiffer
 openings-differ key iv key′ iv′ o o′ z z′ differ n e = differ (loading-laws .registers-one-to-one-in-both key iv key′ iv′ (key-and-iv o) (key-and-iv o′) z z′ n e)
 
@@ -38,5 +44,7 @@ opening-laws =
       opened-leads = opened-leads;
       opened-well-formed = opened-well-formed;
       opened-position = opened-position;
+      one-key-leads = one-key-leads;
       openings-differ = openings-differ;
+      blank-refused = refl;
     }

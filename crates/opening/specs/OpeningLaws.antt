@@ -1,15 +1,16 @@
 -- What is proved of opening: proofs/OpeningLaws.antt has `opening-laws : OpeningLaws`.
 use mathlib.Core.Path.{_≡_}
-use mathlib.Core.List.{List}
+use mathlib.Core.List.{List, [], _∷_}
 use Prim.Native.Nat.{ℕ}
+use Rattle.generator.specs.declared.State.{State}
 use Rattle.loading.specs.Loading.{sizeMark, registersAt}
-use Rattle.answers.specs.Tests.{WellFormed}
+use Rattle.answers.specs.Tests.{stateTests, returned, WellFormed}
 use Rattle.answers.specs.Lines.{RefusesExactly}
 use Rattle.opening.specs.Opening.{blank, openingLines, opened, OpeningAccepts, Leads}
 
--- demand 1, of opening: for every key and IV of whatever length. It is lent nothing to write.
+-- demand 1, of opening: for every key and IV of whatever length. "Opening tests 1, 2". It is lent nothing to write.
 abbrev pub OpeningRefusals : Type 0
-OpeningRefusals = (key iv : List ℕ) → RefusesExactly (opened key iv) (openingLines key iv) blank
+OpeningRefusals = (key iv : List ℕ) → RefusesExactly (opened key iv) (openingLines key iv) (1 ∷ 2 ∷ []) blank
 
 -- demand 3: "For every number of steps, two accepted 256-bit openings that differ in key or IV hold different registers once each has taken that
 -- many."
@@ -24,4 +25,8 @@ pub record OpeningLaws : Type 0 where
   pub opened-leads : (key iv : List ℕ) → OpeningAccepts key iv → Leads key iv (opened key iv .state)
   pub opened-well-formed : (key iv : List ℕ) → OpeningAccepts key iv → WellFormed (opened key iv .state)
   pub opened-position : (key iv : List ℕ) → OpeningAccepts key iv → opened key iv .state .position ≡ 0
+  -- of keys that lead to a state with an IV there is only one
+  pub one-key-leads : (key key′ iv : List ℕ) (s : State) → Leads key iv s → Leads key′ iv s → key ≡ key′
   pub openings-differ : OpeningsDiffer
+  -- the blank state is refused by the tests of a state
+  pub blank-refused : returned (stateTests blank) ≡ 3

@@ -19,13 +19,13 @@ walk-from a b r w = by (leb a b) refl
         let le = leb-true a b e in
         let z : a - b ≡ 0 = omega arith in
         let s : a + (b - a) ≡ b = omega arith in
-        rw z (sym (generator-laws .forward-compose Ordinary a (b - a) r) ∙ ap (λ (n : ℕ). iterate (next Ordinary) n r) s)
+        rw z (sym (generator-laws .walks-compose (next Ordinary) a (b - a) r) ∙ ap (λ (n : ℕ). iterate (next Ordinary) n r) s)
     by false e =
         let lt = leb-false a b e in
         let z : b - a ≡ 0 = omega arith in
         let s : a ≡ b + (a - b) = omega arith in
         rw z
-        (ap (iterate (previous Ordinary) (a - b)) (ap (λ (n : ℕ). iterate (next Ordinary) n r) s ∙ generator-laws .forward-compose Ordinary b (a - b) r)
+        (ap (iterate (previous Ordinary) (a - b)) (ap (λ (n : ℕ). iterate (next Ordinary) n r) s ∙ generator-laws .walks-compose (next Ordinary) b (a - b) r)
         ∙ generator-laws .back-forward Ordinary (a - b) .undone (iterate (next Ordinary) b r) (generator-laws .back-forward Ordinary b .keeps r w))
 
 module _ (r : Registers) (w : EighteenWords r) where
@@ -52,4 +52,4 @@ walk-on a b c r h k =
     let y : b - c ≡ 0 = omega arith in
     let z : a - c ≡ 0 = omega arith in
     let steps : c - a ≡ (b - a) + (c - b) = omega arith in
-    rw (x, y, z, steps) (sym (generator-laws .forward-compose Ordinary (b - a) (c - b) r))
+    rw (x, y, z, steps) (sym (generator-laws .walks-compose (next Ordinary) (b - a) (c - b) r))

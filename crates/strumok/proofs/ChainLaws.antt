@@ -1,6 +1,6 @@
 -- The laws of chains of accepted calls that specs/ChainLaws.antt states.
 use mathlib.Core.Path.{_≡_, refl, sym, ap, _∙_, subst}
-use mathlib.Core.List.{List, [], _∷_}
+use mathlib.Core.List.{List, [], _∷_, _++_}
 use Prim.Native.Nat.{ℕ, _+_, _≤_}
 use native.Mathlib.Omega.{arith}
 use lib.IntN.{ℤ, pos, _+ℤ_, +ℤ-idl, +ℤ-idr, +ℤ-assoc}
@@ -9,7 +9,7 @@ use Rattle.generator.specs.declared.State.{State}
 use Rattle.answers.specs.declared.Answer.{Answer}
 use Rattle.answers.specs.Numbers.{accepted}
 use Rattle.answers.specs.Tests.{WellFormed}
-use Rattle.opening.specs.Opening.{Leads, opened}
+use Rattle.opening.specs.Opening.{blank, opened, OpeningAccepts, Leads}
 use Rattle.opening.proofs.OpeningLaws.{opening-laws}
 use Rattle.positions.specs.Positions.{movedTo}
 use Rattle.positions.specs.PositionLaws.{LedTo}
@@ -20,8 +20,38 @@ use Rattle.applying.specs.Applying.{applied}
 use Rattle.applying.specs.ApplyingLaws.{Restored}
 use Rattle.applying.proofs.AcceptedPortions.{accepted-portion}
 use Rattle.applying.proofs.ApplyingLaws.{applying-laws}
-use Rattle.strumok.specs.Chains.{Call, portion, window, move, check, answerTo, countOf, after, AllAccepted, total, Reached}
+use Rattle.strumok.specs.Chains.{Call, portion, window, move, check, answerTo, countOf, after, AllAccepted, total, IvFits, Reached}
 use Rattle.strumok.specs.ChainLaws.{RestoredAfterMove, ChainLaws}
+
+-- ---- chains
+
+opening-reaches : (key iv : List ℕ) → OpeningAccepts key iv → Reached key iv [] (opened key iv .state)
+opening-reaches key iv o = record { opening = o; accepts = tt; state = refl }
+
+after-append : (s : State) (calls more : List Call) → after s (calls ++ more) ≡ after (after s calls) more
+after-append s [] more = refl
+after-append s (c ∷ calls) more = after-append (answerTo s c .state) calls more
+
+accepted-append : (s : State) (calls more : List Call) → AllAccepted s calls → AllAccepted (after s calls) more → AllAccepted s (calls ++ more)
+accepted-append s [] more a b = b
+accepted-append s (c ∷ calls) more a b = (a .0, accepted-append (answerTo s c .state) calls more (a .1) b)
+
+call-reaches : (key iv : List ℕ) (calls : List Call) (s : State) (c : Call) → Reached key iv calls s → answerTo s c .number ≡ accepted → Reached key iv (calls ++ (c ∷ [])) (answerTo s c .state)
+call-reaches key iv calls s c r e =
+    let start = opened key iv .state in
+    record {
+      opening = r .opening;
+      accepts = accepted-append start calls (c ∷ []) (r .accepts) (sym (ap (λ (x : State). answerTo x c .number) (r .state)) ∙ e, tt);
+      state = ap (λ (x : State). answerTo x c .state) (r .state) ∙ sym (after-append start calls (c ∷ []));
+    }
+
+-- ---- the blank state
+
+blank-refused : (c : Call) → IvFits c → answerTo blank c ≡ record { number = 3; state = blank }
+blank-refused (portion source target) e = refl
+blank-refused (window buffer start count) e = refl
+blank-refused (move distance) e = refl
+blank-refused (check iv target) e = rw e refl
 
 -- ---- where a chain leads
 
@@ -77,8 +107,11 @@ restores-from-any-byte s xs target k other e h fits =
 pub chain-laws : ChainLaws
 chain-laws =
     record {
+      opening-reaches = opening-reaches;
+      call-reaches = call-reaches;
       reached-leads = reached-leads;
       reached-well-formed = reached-well-formed;
       reached-position = reached-position;
       restores-from-any-byte = restores-from-any-byte;
+      blank-refused = blank-refused;
     }

@@ -2,6 +2,7 @@
 use Rattle.opening.proofs.OpeningLaws.{opening-laws}
 use Rattle.moving.proofs.MovingLaws.{moving-laws}
 use Rattle.applying.proofs.ApplyingLaws.{applying-laws}
+use Rattle.applying.proofs.AnyStepLaws.{any-step-laws}
 use Rattle.checking.proofs.CheckingLaws.{checking-laws}
 use Rattle.strumok.specs.Demands.{Refusals, Keystream, StoredStates}
 use Rattle.strumok.proofs.ChainLaws.{chain-laws}
@@ -16,6 +17,8 @@ refusals =
       applying = applying-laws .applying-refuses;
       window = applying-laws .window-refuses;
       checking = checking-laws .refuses;
+      applying-with = any-step-laws .applying-with-refuses;
+      window-with = any-step-laws .window-with-refuses;
     }
 
 -- ---- 2. Keystream

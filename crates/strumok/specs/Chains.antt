@@ -45,6 +45,13 @@ abbrev pub total : List Call → ℤ
 total [] = pos 0
 total (c ∷ calls) = countOf c +ℤ total calls
 
+-- whether the IV that a call is told, if any, has its length
+abbrev pub IvFits : Call → Type 0
+IvFits (portion source target) = Unit
+IvFits (window buffer start count) = Unit
+IvFits (move distance) = Unit
+IvFits (check iv target) = length iv ≡ 32
+
 -- "From an opened state, after any chain of accepted portions and moves": the state s
 pub record Reached (key iv : List ℕ) (calls : List Call) (s : State) : Type 0 where
   pub opening : OpeningAccepts key iv

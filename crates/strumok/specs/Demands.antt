@@ -13,6 +13,7 @@ use Rattle.opening.specs.OpeningLaws.{OpeningRefusals, OpeningsDiffer}
 use Rattle.moving.specs.MovingLaws.{MovingRefusals}
 use Rattle.applying.specs.Applying.{applied, appliedTarget, windowed, windowedBuffer, Ciphered}
 use Rattle.applying.specs.ApplyingLaws.{ApplyingRefusals, WindowRefusals}
+use Rattle.applying.specs.AnyStepLaws.{ApplyingWithRefusals, WindowWithRefusals}
 use Rattle.checking.specs.Checking.{checked, checkedTarget}
 use Rattle.checking.specs.CheckingLaws.{CheckingRefusals, StoredChecked}
 use Rattle.strumok.specs.Chains.{Call, total, Reached}
@@ -21,13 +22,15 @@ use Rattle.strumok.specs.Chains.{Call, total, Reached}
 
 -- "A refusal has its number, gives the state back as it came (a refused opening gives a blank one) and writes nothing.", "All else is accepted, and
 -- no caller need have looked beforehand.": of each call, for every argument (`RefusesExactly` and `WritesNothing` of answers/specs/Lines.antt). The check
--- is of a state whose registers are any eighteen words, against an IV of any bytes.
+-- is of a state whose registers are any eighteen words, against an IV of any bytes; the last two are of the calls over lent tables, whatever these hold.
 pub record Refusals : Type 0 where
   pub opening : OpeningRefusals
   pub moving : MovingRefusals
   pub applying : ApplyingRefusals
   pub window : WindowRefusals
   pub checking : CheckingRefusals
+  pub applying-with : ApplyingWithRefusals
+  pub window-with : WindowWithRefusals
 
 -- ---- 2. Keystream
 

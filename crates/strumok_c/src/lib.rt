@@ -8,6 +8,7 @@ ghost use Rattle.moving.specs.Moving.{moved};
 ghost use Rattle.applying.specs.Applying.{applied, appliedTarget, windowed, windowedBuffer};
 ghost use Rattle.applying.specs.AnyStep.{appliedBy, appliedTargetBy, windowedBy, windowedBufferBy};
 ghost use Rattle.checking.specs.Checking.{checked, checkedTarget};
+ghost use Rattle.checking.specs.CheckingLaws.{ChecksExactly};
 ghost use Rattle.twenty_words.specs.TwentyWords.{stateIn, wordsOf};
 use columns::step_tables;
 use strumok::apply;
@@ -72,6 +73,7 @@ pub extern "C" fn strumok_move(state: &mut [u64; 20], distance: i64) -> u64
 pub extern "C" fn strumok_check(state: &[u64; 20], iv: &[u8], key: &mut [u8]) -> u64
     ensures { λ r. ⌜ r ≡ checked (stateIn (now (state .entry))) (now (iv .entry)) (now (key .entry)) .number ⌝ }
     ensures { λ _. ⌜ now (key .exit) ≡ checkedTarget (stateIn (now (state .entry))) (now (iv .entry)) (now (key .entry)) ⌝ }
+    ensures { λ _. ⌜ ChecksExactly (stateIn (now (state .entry))) (now (iv .entry)) (now (key .entry)) ⌝ }
 {
     let a = check(state_in(*state), iv, key);
     a.number

@@ -66,4 +66,5 @@ module _ (s : State) (h : length (s .cells) ≡ 16) where
       rw (take-at (s .cells) rest 16 h, after-cells 0, after-cells 1, after-cells 2, after-cells 3) refl
 
 pub twenty-words-laws : TwentyWordsLaws
-twenty-words-laws = record { words-of-state-in = words-of-state-in; state-in-words-of = state-in-words-of }
+unfolding wordsOf
+twenty-words-laws = record { places = refl; blank-zeros = refl; words-of-state-in = words-of-state-in; state-in-words-of = state-in-words-of }

@@ -6,17 +6,27 @@ use borrow.Author.Needs.{needs}
 use lib.ListN.{length}
 use Rattle.answers.specs.Numbers.{accepted, refusedNoKeyLeads}
 use Rattle.answers.specs.Tests.{returned}
+use Rattle.generator.proofs.Owned.{owned-words}
+use Rattle.loading.proofs.Owned.{owned-bytes}
 use Rattle.checking.specs.Checking.{testsBefore10}
+use Rattle.checking.specs.CheckingLaws.{ChecksExactly}
+use Rattle.checking.proofs.CheckingLaws.{checks-exactly}
 use Rattle.checking.proofs.Checks.{refused-before-10, target-le, room-length, Recovered, front-le, front-length, check-accepts, check-refuses}
 use Rattle.checking.proofs.check.Statement.{statement}
 use Rattle.checking.proofs.check.Tie as tie
+
+-- the demands of this check: the state holds eighteen words and the IV bytes, since a program holds them
+exactly : (c : tie.After-shared-slice-known) → let a = c .before .args in ChecksExactly (a .s) (a .iv .now) (a .target .now)
+exactly c =
+    let a = c .before .args in
+    checks-exactly (a .s) (a .iv .now) (a .target .now) (owned-words (a .s) (c .before .good .0)) (owned-bytes (a .iv .now) (c .shared-slice-known .given))
 
 returns : tie.Need-returns
 returns c =
     let k = c .before .before in
     let a = k .before .before .before .args in
     let left = refused-before-10 (a .s) (a .iv .now) (a .target .now) (k .checking-number .ensures) (c .before .if1 .taken) in
-    (c .refused .ensures ∙ left .0, left .1)
+    (c .refused .ensures ∙ left .0, (left .1, exactly (k .before .before)))
 
 -- past the tests before 10
 ok : (c : tie.Else1) → let a = c .before .before .before .before .args in returned (testsBefore10 (a .s) (a .iv .now) (length (a .target .now))) ≡ accepted
@@ -49,15 +59,17 @@ returns-2 c =
     let p = c .before .before in
     let then = p .before .before .before in
     let l = then .before in
-    check-accepts (recovered (l .before .before .before)) (l .is-loading .ensures) (then .if2 .taken) (p .copy .ensures .1)
+    let found = l .before .before .before in
+    let left = check-accepts (recovered found) (l .is-loading .ensures) (then .if2 .taken) (p .copy .ensures .1) in
+    (left .0, (left .1, exactly (found .before .before .before .before .before .before .before)))
 
 returns-3 : tie.Need-returns-3
 returns-3 c =
     let l = c .before .before in
-    let r = recovered (l .before .before .before) in
+    let found = l .before .before .before in
     let ten : c .refused2 .result ≡ record { number = refusedNoKeyLeads; state = _ } = c .refused2 .ensures in
-    let left = check-refuses r (l .is-loading .ensures) (c .before .if2 .left) in
-    (ten ∙ left .0, left .1)
+    let left = check-refuses (recovered found) (l .is-loading .ensures) (c .before .if2 .left) in
+    (ten ∙ left .0, (left .1, exactly (found .before .before .before .before .before .before .before)))
 
 pub check-spec : {M : Type 1} → statement M
 check-spec =

@@ -1,0 +1,21 @@
+-- The first keystream word of a published vector of DSTU 8845:2019 for each key size, of the definitions: what the worked table cannot tell,
+-- such as the number of steps of initialisation or the cells of Z, this does. The vectors as a whole are run by a program (crate `vectors`).
+-- proofs/FirstWords.antt has `first-words : FirstWords`.
+use mathlib.Core.Path.{_≡_}
+use mathlib.Core.List.{List, [], _∷_, _++_}
+use Prim.Native.Nat.{ℕ}
+use Rattle.generator.specs.Registers.{keystreamWord}
+use Rattle.loading.specs.Loading.{registersAt}
+use Rattle.loading.specs.WorkedTable.{zeros, wordBytes}
+
+-- the key 80 00 .. 00 of n + 1 bytes
+abbrev pub key80 : (n : ℕ) → List ℕ
+key80 n = 0x80 ∷ zeros n
+
+-- IV3 = 4, IV2 = 3, IV1 = 2, IV0 = 1
+abbrev pub iv4321 : List ℕ
+iv4321 = wordBytes 4 ++ wordBytes 3 ++ wordBytes 2 ++ wordBytes 1
+
+pub record FirstWords : Type 0 where
+  pub first-word-256 : keystreamWord (registersAt (key80 31) iv4321 0) ≡ 0xFE44A2508B5A2ACD
+  pub first-word-512 : keystreamWord (registersAt (key80 63) iv4321 0) ≡ 0xCCA12EAE8133AAAA
