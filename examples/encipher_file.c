@@ -4,18 +4,30 @@
  *     encipher_file KEY_FILE IV_FILE INPUT OUTPUT [POSITION]
  *
  * KEY_FILE has the 32 or 64 bytes of the key, IV_FILE the 32 of the IV. The first byte of INPUT meets keystream byte POSITION, 0 where it
- * is not given. What is written goes to OUTPUT.part, which must not be there yet, and takes the name OUTPUT once it is whole; whatever had
- * that name is replaced.
+ * is not given.
+ *
+ * Where OUTPUT is a regular file, or is not there, what is written goes to OUTPUT.part, which must not be there yet, and takes the name
+ * OUTPUT once it is whole; so INPUT and OUTPUT may be the same file. The owner and the mode of a file that is replaced are kept; a new file
+ * has mode 0600, since it may hold plain text. Where OUTPUT is a symbolic link, the file that it leads to is replaced, and the link stays.
+ * Anything else, such as a device, a pipe or a terminal, is written to directly.
+ *
+ * The status is 0 where all of INPUT was worked and written; else it is 1, and a message on standard error says what failed.
  *
  *     gcc -std=c11 -O2 -Iinclude examples/encipher_file.c target/staticlib/libstrumok_c.a -o encipher_file
  */
+#define _XOPEN_SOURCE 700 /* POSIX: open, stat, fchmod, realpath */
+
 #include "strumok.h"
 
 #include <errno.h>
+#include <fcntl.h>
+#include <signal.h>
 #include <stdbool.h>
 #include <stdio.h>
 #include <stdlib.h>
 #include <string.h>
+#include <sys/stat.h>
+#include <unistd.h>
 
 enum { LONGEST_KEY = 64, IV_LENGTH = 32, PORTION = 4096 };
 
@@ -101,23 +113,58 @@ static bool apply_to_all(uint64_t state[STRUMOK_STATE_WORDS], FILE *input, FILE 
     return true;
 }
 
-/* Writes the output under another name, and gives it its own only where all of it is written. */
-static bool write_output(uint64_t state[STRUMOK_STATE_WORDS], FILE *input, const char *name)
+/* Writes all of it by a descriptor that was just opened, and closes that. Owner and mode are those of old where that is not NULL. */
+static bool write_all(uint64_t state[STRUMOK_STATE_WORDS], FILE *input, int descriptor, const char *name, const struct stat *old)
+{
+    FILE *output = descriptor < 0 ? NULL : fdopen(descriptor, "wb");
+    if (output == NULL)
+        return failed(name, strerror(errno));
+    bool done = apply_to_all(state, input, output);
+    if (done && old != NULL && (fchown(descriptor, old->st_uid, old->st_gid) != 0 || fchmod(descriptor, old->st_mode & 0777) != 0))
+        done = failed("keeping the output's owner and mode", strerror(errno));
+    if (fclose(output) != 0 && done)
+        done = failed(name, strerror(errno));
+    return done;
+}
+
+/* Writes a file under another name, and gives it its own only where all of it is written. old is what it replaces, or NULL. */
+static bool write_file(uint64_t state[STRUMOK_STATE_WORDS], FILE *input, const char *name, const struct stat *old)
 {
     char part[FILENAME_MAX];
     const int length = snprintf(part, sizeof part, "%s.part", name);
     if (length < 0 || (size_t)length >= sizeof part)
         return failed(name, "the name is too long");
-    FILE *output = fopen(part, "wbx");
-    if (output == NULL)
+    const int descriptor = open(part, O_WRONLY | O_CREAT | O_EXCL, 0600);
+    if (descriptor < 0 && errno == EEXIST)
+        return failed(part, "is there already: another run is under way, or one was cut off; if none is under way, remove it");
+    if (descriptor < 0)
         return failed(part, strerror(errno));
-    bool done = apply_to_all(state, input, output);
-    if (fclose(output) != 0 && done)
-        done = failed(part, strerror(errno));
+    bool done = write_all(state, input, descriptor, part, old);
     if (done && rename(part, name) != 0)
         done = failed(name, strerror(errno));
     if (!done)
         remove(part);
+    return done;
+}
+
+/* Writes the output: a file under its real name, so that a symbolic link stays; anything else that is there directly. */
+static bool write_output(uint64_t state[STRUMOK_STATE_WORDS], FILE *input, const char *name)
+{
+    struct stat old;
+    if (stat(name, &old) != 0) {
+        if (errno != ENOENT)
+            return failed(name, strerror(errno));
+        if (lstat(name, &old) == 0)
+            return failed(name, "a symbolic link that leads to nothing");
+        return write_file(state, input, name, NULL);
+    }
+    if (!S_ISREG(old.st_mode))
+        return write_all(state, input, open(name, O_WRONLY), name, NULL);
+    char *real = realpath(name, NULL);
+    if (real == NULL)
+        return failed(name, strerror(errno));
+    const bool done = write_file(state, input, real, &old);
+    free(real);
     return done;
 }
 
@@ -138,6 +185,7 @@ int main(int argc, char **argv)
         fputs("usage: encipher_file KEY_FILE IV_FILE INPUT OUTPUT [POSITION]\n", stderr);
         return EXIT_FAILURE;
     }
+    signal(SIGPIPE, SIG_IGN); /* to write to a pipe that nobody reads fails, with a message */
     const bool done = open_state(state, argv[1], argv[2])
                       && (argc == 5 || move_on(state, argv[5]))
                       && encipher(state, argv[3], argv[4]);

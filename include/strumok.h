@@ -16,6 +16,13 @@
  *   - the state, the tables and the buffers of one call do not overlap (to work in place there is strumok_window);
  *   - nothing else touches them during the call.
  *
+ * Where a call is refused nothing is enciphered or deciphered, so no result may be ignored. Compilers that can do so warn of one that is
+ * ignored, and of an argument that is plainly null.
+ *
+ * Threads: the calls keep nothing from one call to the next, and have no data of their own that is written. Calls over different states
+ * and buffers may run at the same time. A state, and a buffer that is written, is in one call at a time; what is only read may be shared:
+ * tables, keys, IVs, sources, the state of a check.
+ *
  * A state is as secret as its key: strumok_check turns the one into the other. So is a key target. Secrecy of timing is not claimed: tables
  * are indexed by bytes that are secret. No call wipes what it leaves on the stack.
  *
@@ -27,6 +34,26 @@
 
 #include <stddef.h>
 #include <stdint.h>
+
+#if SIZE_MAX != UINT64_MAX
+#error "strumok.h: the library is for x86-64, where size_t has 64 bits"
+#endif
+
+/* For the compiler to warn: of a result that is ignored, and of a null argument. The same in both headers, strumok.h and strumok_mut.h. */
+#ifndef STRUMOK_MUST_USE
+#if (defined __cplusplus && __cplusplus >= 201703L) || (defined __STDC_VERSION__ && __STDC_VERSION__ >= 202311L)
+#define STRUMOK_MUST_USE [[nodiscard]]
+#elif defined __GNUC__
+#define STRUMOK_MUST_USE __attribute__((warn_unused_result))
+#else
+#define STRUMOK_MUST_USE
+#endif
+#ifdef __GNUC__
+#define STRUMOK_NONNULL __attribute__((nonnull))
+#else
+#define STRUMOK_NONNULL
+#endif
+#endif
 
 #ifdef __cplusplus
 extern "C" {
@@ -63,6 +90,7 @@ enum {
  *
  * Refusals, with the blank state: 1, 2. Every other call refuses the blank state.
  */
+STRUMOK_MUST_USE STRUMOK_NONNULL
 uint64_t strumok_open(const uint8_t *key, size_t key_len, const uint8_t *iv, size_t iv_len, uint64_t state[STRUMOK_STATE_WORDS]);
 
 /*
@@ -71,6 +99,7 @@ uint64_t strumok_open(const uint8_t *key, size_t key_len, const uint8_t *iv, siz
  *
  * Refusals, with state and target as they were: 3, 4, 5, 7.
  */
+STRUMOK_MUST_USE STRUMOK_NONNULL
 uint64_t strumok_apply(uint64_t state[STRUMOK_STATE_WORDS], const uint8_t *source, size_t source_len, uint8_t *target, size_t target_len);
 
 /*
@@ -79,6 +108,7 @@ uint64_t strumok_apply(uint64_t state[STRUMOK_STATE_WORDS], const uint8_t *sourc
  *
  * Refusals, with state and buffer as they were: 3, 4, 6, 7.
  */
+STRUMOK_MUST_USE STRUMOK_NONNULL
 uint64_t strumok_window(uint64_t state[STRUMOK_STATE_WORDS], uint8_t *buffer, size_t buffer_len, size_t start, size_t count);
 
 /*
@@ -87,6 +117,7 @@ uint64_t strumok_window(uint64_t state[STRUMOK_STATE_WORDS], uint8_t *buffer, si
  *
  * Refusals, with the state as it was: 3, 4, 7, 8.
  */
+STRUMOK_MUST_USE STRUMOK_NONNULL
 uint64_t strumok_move(uint64_t state[STRUMOK_STATE_WORDS], int64_t distance);
 
 /*
@@ -96,6 +127,7 @@ uint64_t strumok_move(uint64_t state[STRUMOK_STATE_WORDS], int64_t distance);
  *
  * Refusals, with the key target as it was: 2, 3, 4, 9, 10.
  */
+STRUMOK_MUST_USE STRUMOK_NONNULL
 uint64_t strumok_check(const uint64_t state[STRUMOK_STATE_WORDS], const uint8_t *iv, size_t iv_len, uint8_t *key, size_t key_len);
 
 /*
@@ -106,11 +138,14 @@ uint64_t strumok_check(const uint64_t state[STRUMOK_STATE_WORDS], const uint8_t 
  */
 #define STRUMOK_TABLES_WORDS 2560
 
+STRUMOK_NONNULL
 void strumok_tables(uint64_t tables[STRUMOK_TABLES_WORDS]);
 
+STRUMOK_MUST_USE STRUMOK_NONNULL
 uint64_t strumok_apply_with(uint64_t state[STRUMOK_STATE_WORDS], const uint64_t tables[STRUMOK_TABLES_WORDS], const uint8_t *source,
                             size_t source_len, uint8_t *target, size_t target_len);
 
+STRUMOK_MUST_USE STRUMOK_NONNULL
 uint64_t strumok_window_with(uint64_t state[STRUMOK_STATE_WORDS], const uint64_t tables[STRUMOK_TABLES_WORDS], uint8_t *buffer,
                              size_t buffer_len, size_t start, size_t count);
 

@@ -8,6 +8,26 @@
 #include <stddef.h>
 #include <stdint.h>
 
+#if SIZE_MAX != UINT64_MAX
+#error "strumok_mut.h: the library is for x86-64, where size_t has 64 bits"
+#endif
+
+/* For the compiler to warn: of a result that is ignored, and of a null argument. The same in both headers, strumok.h and strumok_mut.h. */
+#ifndef STRUMOK_MUST_USE
+#if (defined __cplusplus && __cplusplus >= 201703L) || (defined __STDC_VERSION__ && __STDC_VERSION__ >= 202311L)
+#define STRUMOK_MUST_USE [[nodiscard]]
+#elif defined __GNUC__
+#define STRUMOK_MUST_USE __attribute__((warn_unused_result))
+#else
+#define STRUMOK_MUST_USE
+#endif
+#ifdef __GNUC__
+#define STRUMOK_NONNULL __attribute__((nonnull))
+#else
+#define STRUMOK_NONNULL
+#endif
+#endif
+
 #ifdef __cplusplus
 extern "C" {
 #endif
@@ -37,10 +57,17 @@ struct strumok_state {
  *   - buffer is not null, also where buffer_len is 0, and has buffer_len bytes;
  *   - state and buffer do not overlap, and nothing else touches them during the call.
  *
+ * Where the call is refused nothing is enciphered or deciphered, so its result may not be ignored. Compilers that can do so warn of one
+ * that is ignored, and of an argument that is plainly null.
+ *
+ * Threads: the call keeps nothing from one call to the next, and has no data of its own that is written. Calls over different states and
+ * buffers may run at the same time.
+ *
  * The call takes some 21 KiB of stack (measured), most of it for its tables. Secrecy of timing is not claimed: tables are indexed by
  * bytes that are secret.
  */
-uint64_t window_mut(struct strumok_state *state, uint8_t *buffer, size_t buffer_len, size_t start, size_t count);
+STRUMOK_MUST_USE STRUMOK_NONNULL
+uint64_t strumok_window_mut(struct strumok_state *state, uint8_t *buffer, size_t buffer_len, size_t start, size_t count);
 
 #ifdef __cplusplus
 }

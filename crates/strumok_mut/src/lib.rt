@@ -7,7 +7,7 @@ use generator::State;
 
 // The keystream over count bytes of the buffer from start on, and the state found moved on afterwards; or a refusal, with both as they were.
 #[no_mangle]
-pub extern "C" fn window_mut(
+pub extern "C" fn strumok_window_mut(
     state: &mut State,
     buffer: &mut [u8],
     start: usize,
@@ -29,7 +29,7 @@ pub fn window_through(s: State, buffer: &mut [u8], start: usize, count: usize) -
     ensures { λ _. ⌜ now (buffer .exit) ≡ windowedBuffer s (now (buffer .entry)) start count ⌝ }
 {
     let mut t = s;
-    let number = window_mut(&mut t, buffer, start, count);
+    let number = strumok_window_mut(&mut t, buffer, start, count);
     Answer {
         number: number,
         state: t,

@@ -1,6 +1,6 @@
 -- `strumok_mut::window_through` meets its contract: a walk of its MIR, statement by statement. The state, copied to a local, is lent to
--- `window_mut` for a lifetime that is made for the call, and comes back as the call left it. All that the walk knows of `window_mut` is that
--- it meets its contract.
+-- `strumok_window_mut` for a lifetime that is made for the call, and comes back as the call left it. All that the walk knows of
+-- `strumok_window_mut` is that it meets its contract.
 use mathlib.Core.Path.{_≡_, refl, ap, subst}
 use Prim.Native.Nat.{ℕ, _<_, _^_}
 use mathlib.Core.List.{[], _∷_, List}
@@ -51,10 +51,10 @@ use Rattle.applying.specs.Applying.{windowed, windowedBuffer}
 use Rattle.answers.proofs.Answer as P
 use Rattle.answers.proofs.Answer.Laws as P′
 use Rattle.strumok_mut.proofs.Walks.{R, mach, Known, state-typed, state-owned, All, joined, joined-in, hears, ends-saying, then-counts}
-use Rattle.strumok_mut.proofs.window_mut as window-mut
-use Rattle.strumok_mut.proofs.window_mut.Symbol as window-mut-def
-use Rattle.strumok_mut.proofs.window_mut.Symbol.{name as #strumok-mut·window-mut}
-use Rattle.strumok_mut.proofs.window_mut.Met as window-mut-thm
+use Rattle.strumok_mut.proofs.strumok_window_mut as strumok-window-mut
+use Rattle.strumok_mut.proofs.strumok_window_mut.Symbol as strumok-window-mut-def
+use Rattle.strumok_mut.proofs.strumok_window_mut.Symbol.{name as #strumok-mut·strumok-window-mut}
+use Rattle.strumok_mut.proofs.strumok_window_mut.Met as strumok-window-mut-thm
 use Rattle.strumok_mut.proofs.window_through.Key.{name as #strumok-mut·window-through}
 use Rattle.strumok_mut.proofs.window_through as through
 use Rattle.strumok_mut.proofs.window_through.Statement as stated
@@ -80,8 +80,8 @@ abbrev stayed : Stays (through.ended .signature .params) (through.ended .kept)
 stayed = (stay-none (λ _. R) yes, (gave-slice (0 ∷ []) tt (plain (λ _. u8)), (stay-none (λ _. usize) yes, (stay-none (λ _. usize) yes, tt))))
 
 -- the contract that the proof cites
-abbrev WindowMut : {M : Type 1} (𝓤 : URA M) (H : Heap 𝓤) (A : Atoms 𝓤) (mem : Memory → SProp 𝓤) (run : Routine → Fun 𝓤) → Contract 𝓤
-WindowMut 𝓤 H A mem run = tripleOf 𝓤 H A window-mut.signature (window-mut.spec 𝓤 H A mem run)
+abbrev StrumokWindowMut : {M : Type 1} (𝓤 : URA M) (H : Heap 𝓤) (A : Atoms 𝓤) (mem : Memory → SProp 𝓤) (run : Routine → Fun 𝓤) → Contract 𝓤
+StrumokWindowMut 𝓤 H A mem run = tripleOf 𝓤 H A strumok-window-mut.signature (strumok-window-mut.spec 𝓤 H A mem run)
 
 module _ {M : Type 1} (𝓤 : URA M) (H : Heap 𝓤) (A : Atoms 𝓤) (W : Given 𝓤 H A) (at-mem : Memory → SProp 𝓤) (run : Routine → Fun 𝓤) (κ : Lft) (q : Share) (s : State) (buffer : RefT (List ℕ)) (start count : ℕ)
     (g : Known s) (start-fits : start < 2 ^ 64) (count-fits : count < 2 ^ 64) where
@@ -101,7 +101,7 @@ module _ {M : Type 1} (𝓤 : URA M) (H : Heap 𝓤) (A : Atoms 𝓤) (W : Given
   abbrev bound : Walked .Ghost
   bound = (((κ, tt), (q, tt), tt, a, vals), tt)
 
-  -- ---- the call of `window_mut`, for a lifetime ν, with the local at the place l lent under the name γ
+  -- ---- the call of `strumok_window_mut`, for a lifetime ν, with the local at the place l lent under the name γ
   abbrev lent-at : ℕ → GName → RefT State
   lent-at l γ = record { ptr = (l, 0); name = γ; now = s }
 
@@ -109,13 +109,13 @@ module _ {M : Type 1} (𝓤 : URA M) (H : Heap 𝓤) (A : Atoms 𝓤) (W : Given
   args l γ = (lent-at l γ, (buffer, (start, (count, tt))))
 
   -- what its triple binds outside
-  abbrev to-window-mut : ℕ → ℕ → GName → WindowMut 𝓤 H A at-mem run .Ghost
-  to-window-mut ν l γ = (((ν ∷ [], (κ, tt)), (fullShare, (q, tt)), tt, args l γ, (vptr l 0 ∷ [], (slice ∷ [], (vint w64 start ∷ [], (vint w64 count ∷ [], tt))))), tt)
+  abbrev to-strumok-window-mut : ℕ → ℕ → GName → StrumokWindowMut 𝓤 H A at-mem run .Ghost
+  to-strumok-window-mut ν l γ = (((ν ∷ [], (κ, tt)), (fullShare, (q, tt)), tt, args l γ, (vptr l 0 ∷ [], (slice ∷ [], (vint w64 start ∷ [], (vint w64 count ∷ [], tt))))), tt)
 
   -- what it asks
   goes : (ν l : ℕ) (γ : GName)
       → ent 𝓤 (sep 𝓤 (sep 𝓤 (A .lft (ν ∷ []) fullShare) (sep 𝓤 (A .lft κ q) (sem 𝓤 H A ftrue)))
-      (sep 𝓤 (sem 𝓤 H A (MutRef (named 0) (ν ∷ []) R .own (lent-at l γ) (vptr l 0 ∷ []))) (sem 𝓤 H A (MutSlice (named 0) κ u8 .own buffer (slice ∷ []))))) (WindowMut 𝓤 H A at-mem run .pre (to-window-mut ν l γ))
+      (sep 𝓤 (sem 𝓤 H A (MutRef (named 0) (ν ∷ []) R .own (lent-at l γ) (vptr l 0 ∷ []))) (sem 𝓤 H A (MutSlice (named 0) κ u8 .own buffer (slice ∷ []))))) (StrumokWindowMut 𝓤 H A at-mem run .pre (to-strumok-window-mut ν l γ))
   goes ν l γ =
       qed W ((‵ (flft (ν ∷ []) fullShare) ⊛ (‵ (flft κ q) ⊛ ‵ ftrue)) ∷ ‵ (MutRef (named 0) (ν ∷ []) R .own (lent-at l γ) (vptr l 0 ∷ [])) ∷ ‵ (MutSlice (named 0) κ u8 .own buffer (slice ∷ [])) ∷ []) ∵
       move ! (2 ∷ []) $ then-counts ! start-fits count-fits $ move ! (2 ∷ []) $ fjoin ! $ move ! (1 ∷ []) $ join ! $ frame ! $ done !
@@ -137,7 +137,7 @@ module _ {M : Type 1} (𝓤 : URA M) (H : Heap 𝓤) (A : Atoms 𝓤) (W : Given
       frame ! $ then-counts ! start-fits count-fits $ state-owned ! s g $ fjoin ! $ owned ! P.the-row (Is P.the-row) (LL.makes P.the-type P′.the-plain 𝓤 H A) (answer k z) _ ga $ move ! (1 ∷ []) $ done !
 
   -- ---- the walk
-  module _ (C : Calls 𝓤 H) (Λ : Loops 𝓤 H) (fm : FmC 𝓤 H (W .laws) C) (known : Triple 𝓤 (C #strumok-mut·window-mut) (WindowMut 𝓤 H A at-mem run)) where
+  module _ (C : Calls 𝓤 H) (Λ : Loops 𝓤 H) (fm : FmC 𝓤 H (W .laws) C) (known : Triple 𝓤 (C #strumok-mut·strumok-window-mut) (StrumokWindowMut 𝓤 H A at-mem run)) where
     walk : Room u8 (length (buffer .now)) → ent 𝓤 (onEntry 𝓤 H A through.signature (κ, tt) (q, tt) a vals) (WpFn 𝓤 H C Λ code.function (mach s ∷ slice ∷ vint w64 start ∷ vint w64 count ∷ []) (Walked .post bound))
     walk room =
         qed W ((‵ (flft κ q) ⊛ ‵ ftrue) ∷ ‵ (owns (R ∷ MutSlice (named 0) κ u8 ∷ usize ∷ usize ∷ []) a vals) ∷ []) ∵
@@ -157,16 +157,16 @@ module _ {M : Type 1} (𝓤 : URA M) (H : Heap 𝓤) (A : Atoms 𝓤) (W : Given
         lft-new ! tt (λ ν. move ! (1 ∷ []) $
         use1 W (later (some (λ (γ : GName). ‵ (MutRef (named 0) (ν ∷ []) R .own (lent-at l₅ γ) (vptr l₅ 0 ∷ [])) ⊛ ‵ (flent (ν ∷ []) (Body (mem R) l₅ 0 γ))))) (lends-ref 𝓤 H A W R (named 0) (ν ∷ []) s l₅ 0) $
         await ! tt $ pick ! (λ γ. split ! $
-        move ! (25 ∷ []) $ fsplit ! $ move ! (1 ∷ []) $ fsplit ! $ move ! (5 ∷ 27 ∷ 3 ∷ 0 ∷ []) $ join ! $ use3 W (raw (WindowMut 𝓤 H A at-mem run .pre (to-window-mut ν l₅ γ))) (goes ν l₅ γ) $
+        move ! (25 ∷ []) $ fsplit ! $ move ! (1 ∷ []) $ fsplit ! $ move ! (5 ∷ 27 ∷ 3 ∷ 0 ∷ []) $ join ! $ use3 W (raw (StrumokWindowMut 𝓤 H A at-mem run .pre (to-strumok-window-mut ν l₅ γ))) (goes ν l₅ γ) $
         -- [what the call asks; …; …; the lender's part; _10; …; _9; …; _8; …; _7; …; _6; …; (of _5) …; _4; …; …; _1; …; room for _0; …]
-        -- _6 = window_mut(_7, _9, start, count)
-        calls-at ! fm (WindowMut 𝓤 H A at-mem run) known (to-window-mut ν l₅ γ)
+        -- _6 = strumok_window_mut(_7, _9, start, count)
+        calls-at ! fm (StrumokWindowMut 𝓤 H A at-mem run) known (to-strumok-window-mut ν l₅ γ)
         (and-then ! (load ! (from ! (stop !)) (look ! 10 refl)) (and-then ! (load ! (from ! (stop !)) (look ! 6 refl)) (and-then ! (load ! (from ! (stop !)) (look ! 17 refl)) (and-then ! (load ! (from ! (stop !)) (look ! 15 refl)) (no-more !))))) (λ v.
-        use1 W (later (some (λ (k : ℕ). ((‵ (flft (ν ∷ []) fullShare) ⊛ (‵ (flft κ q) ⊛ ‵ ftrue)) ⊛ ‵ (u64 .own k (v ∷ []))) ⊛ raw (ensured 𝓤 H A window-mut.ended (window-mut.clauses 𝓤 H A at-mem run) (ν ∷ [], (κ, tt)) (args l₅ γ) tt k)))) (id⊢ 𝓤 _) $
+        use1 W (later (some (λ (k : ℕ). ((‵ (flft (ν ∷ []) fullShare) ⊛ (‵ (flft κ q) ⊛ ‵ ftrue)) ⊛ ‵ (u64 .own k (v ∷ []))) ⊛ raw (ensured 𝓤 H A strumok-window-mut.ended (strumok-window-mut.clauses 𝓤 H A at-mem run) (ν ∷ [], (κ, tt)) (args l₅ γ) tt k)))) (id⊢ 𝓤 _) $
         await ! tt $ pick ! (λ k.
-        -- what `window_mut` ensures, at some last state and last bytes of the buffer
+        -- what `strumok_window_mut` ensures, at some last state and last bytes of the buffer
         split ! $ move ! (1 ∷ []) $
-        use1 W (some (λ (zs : State × (List ℕ × (Unit {0} × (Unit {0} × Unit {0})))). ‵ (lasts window-mut.ended (ν ∷ [], (κ, tt)) (args l₅ γ) zs) ⊛ raw (joined 𝓤 (Ensured k (zs .0) (zs .1 .0))))) (id⊢ 𝓤 _) $
+        use1 W (some (λ (zs : State × (List ℕ × (Unit {0} × (Unit {0} × Unit {0})))). ‵ (lasts strumok-window-mut.ended (ν ∷ [], (κ, tt)) (args l₅ γ) zs) ⊛ raw (joined 𝓤 (Ensured k (zs .0) (zs .1 .0))))) (id⊢ 𝓤 _) $
         pick ! (λ zs. split ! $ move ! (1 ∷ []) $ hears ! (Ensured k (zs .0) (zs .1 .0)) (λ e.
         fsplit ! $ move ! (1 ∷ []) $ fsplit ! $ fsplit ! $ move ! (1 ∷ []) $ feqL ! (λ l.
         move ! (3 ∷ []) $ split ! $ move ! (1 ∷ []) $ peeks ! u64 (Is u64) (shows 𝓤 H A u64) k (v ∷ []) (λ is.
@@ -187,7 +187,7 @@ module _ {M : Type 1} (𝓤 : URA M) (H : Heap 𝓤) (A : Atoms 𝓤) (W : Given
         keep ! (1 ∷ 3 ∷ []) $ by ! (exits k (zs .0) (zs .1 .0) (made k (zs .0) (is .1) (back (zs .0) w gw)) e l))))))))))))))))))))))
 
 module _ {M : Type 1} (𝓤 : URA M) (H : Heap 𝓤) (A : Atoms 𝓤) (W : Given 𝓤 H A) (mem : Memory → SProp 𝓤) (run : Routine → Fun 𝓤) where
-  through-walks : (C : Calls 𝓤 H) (Λ : Loops 𝓤 H) → FmC 𝓤 H (W .laws) C → Triple 𝓤 (C #strumok-mut·window-mut) (WindowMut 𝓤 H A mem run)
+  through-walks : (C : Calls 𝓤 H) (Λ : Loops 𝓤 H) → FmC 𝓤 H (W .laws) C → Triple 𝓤 (C #strumok-mut·strumok-window-mut) (StrumokWindowMut 𝓤 H A mem run)
       → Walks 𝓤 H A through.ended stayed (WpFn 𝓤 H C Λ code.function) (through.clauses 𝓤 H A mem run)
   through-walks C Λ fm known =
       walked 𝓤 H A through.ended stayed (through.clauses 𝓤 H A mem run) (WpFn 𝓤 H C Λ code.function) (λ κs. (LL.vals T.the-type T′.the-laws, (slice-vals, (uint-vals w64, (uint-vals w64, tt)))))
@@ -195,7 +195,7 @@ module _ {M : Type 1} (𝓤 : URA M) (H : Heap 𝓤) (A : Atoms 𝓤) (W : Given
       (λ κs qs bounds a g are. via 𝓤 _ (fst∗ 𝓤 _ (emp 𝓤))
       (walk 𝓤 H A W mem run (κs .0) (qs .0) (a .0) (a .1 .0) (a .1 .1 .0) (a .1 .1 .1 .0) (are .0) (are .1 .1 .0 .1) (are .1 .1 .1 .0 .1) C Λ fm known (are .1 .0 .0 .1)))
 
-through-meets : {M : Type 1} (𝓤 : URA M) (H : Heap 𝓤) (A : Atoms 𝓤) → Given 𝓤 H A → (mem : Memory → SProp 𝓤) (run : Routine → Fun 𝓤) (𝓣 : Tables 𝓤 H) → Triple 𝓤 (𝓣 .C #strumok-mut·window-mut) (WindowMut 𝓤 H A mem run)
+through-meets : {M : Type 1} (𝓤 : URA M) (H : Heap 𝓤) (A : Atoms 𝓤) → Given 𝓤 H A → (mem : Memory → SProp 𝓤) (run : Routine → Fun 𝓤) (𝓣 : Tables 𝓤 H) → Triple 𝓤 (𝓣 .C #strumok-mut·strumok-window-mut) (StrumokWindowMut 𝓤 H A mem run)
     → Meets 𝓤 H A through.signature (WpFn 𝓤 H (𝓣 .C) (𝓣 .Λ) code.function) (through.spec 𝓤 H A mem run)
 through-meets 𝓤 H A W mem run 𝓣 known =
     walk-meets 𝓤 H A through.ended stayed W
@@ -209,4 +209,4 @@ window-through-spec 𝓤 H 𝓜 𝓖 𝓡 =
     entered 𝓤 H (tripleOf 𝓤 H (𝓖 .A) through.signature (through.spec 𝓤 H (𝓖 .A) (𝓜 .mem) (𝓡 .run)))
     (tables 𝓤 H 𝓜 𝓡 code.env .C) (tables 𝓤 H 𝓜 𝓡 code.env .Λ) #strumok-mut·window-through code.function (code.unfolded 𝓤 H 𝓜 𝓡)
     (through-meets 𝓤 H (𝓖 .A) (givenOf 𝓤 H 𝓜 𝓖) (𝓜 .mem) (𝓡 .run) (tablesOf 𝓤 H 𝓜 (tables 𝓤 H 𝓜 𝓡 code.env))
-    (cited 𝓤 H (WindowMut 𝓤 H (𝓖 .A) (𝓜 .mem) (𝓡 .run)) 𝓜 𝓡 code.env #strumok-mut·window-mut window-mut-def.routine code.calls-strumok-mut·window-mut (window-mut-thm.met 𝓤 H 𝓜 𝓖 𝓡)))
+    (cited 𝓤 H (StrumokWindowMut 𝓤 H (𝓖 .A) (𝓜 .mem) (𝓡 .run)) 𝓜 𝓡 code.env #strumok-mut·strumok-window-mut strumok-window-mut-def.routine code.calls-strumok-mut·strumok-window-mut (strumok-window-mut-thm.met 𝓤 H 𝓜 𝓖 𝓡)))

@@ -1,8 +1,8 @@
 /*
- * window_mut called from C: that the struct's words are where the header says, that the state is found moved on and the buffer worked
- * over in its window alone, and that each refusal has its number and leaves both as they were. The words expected follow from the rule
- * of one step and the worked table of the scope paper: T(0) in row 6, α times 47FCC6018A990000 in row 5, entry 01 of α's second table
- * in row 3.
+ * strumok_window_mut called from C: that the struct's words are where the header says, that the state is found moved on and the buffer
+ * worked over in its window alone, and that each refusal has its number and leaves both as they were. The words expected follow from the
+ * rule of one step and the worked table of the scope paper: T(0) in row 6, α times 47FCC6018A990000 in row 5, entry 01 of α's second
+ * table in row 3.
  */
 #include "strumok_mut.h"
 
@@ -72,7 +72,7 @@ static void test_one_word(void)
     next.r2 = T_OF_0;
     next.position = 16;
 
-    expect(window_mut(&s, buffer, LENGTH, 5, 8) == 0, "a window of one word is accepted");
+    expect(strumok_window_mut(&s, buffer, LENGTH, 5, 8) == 0, "a window of one word is accepted");
     expect(memcmp(buffer, want, LENGTH) == 0, "its bytes are xor Z, the others kept");
     expect(same_state(&s, &next), "the state is one step on, word by word");
 }
@@ -85,19 +85,19 @@ static void test_portions(void)
 
     fill(one);
     fill(three);
-    expect(window_mut(&whole, one, LENGTH, 2, 13) == 0, "13 bytes at position 3 are accepted");
-    expect(window_mut(&parts, three, LENGTH, 2, 5) == 0, "5 of them are accepted");
+    expect(strumok_window_mut(&whole, one, LENGTH, 2, 13) == 0, "13 bytes at position 3 are accepted");
+    expect(strumok_window_mut(&parts, three, LENGTH, 2, 5) == 0, "5 of them are accepted");
     before = parts;
-    expect(window_mut(&parts, three, LENGTH, 7, 0) == 0, "none is accepted");
+    expect(strumok_window_mut(&parts, three, LENGTH, 7, 0) == 0, "none is accepted");
     expect(same_state(&parts, &before), "none alters nothing");
-    expect(window_mut(&parts, three, LENGTH, 7, 8) == 0, "8 of them are accepted");
+    expect(strumok_window_mut(&parts, three, LENGTH, 7, 8) == 0, "8 of them are accepted");
     expect(memcmp(one, three, LENGTH) == 0, "the bytes are the same");
     expect(same_state(&whole, &parts), "the states are the same");
     expect(whole.position == 16, "the position is moved on by 13");
 
     parts = example(3);
     fill(three);
-    expect(window_mut(&parts, one, LENGTH, 2, 13) == 0, "the same again is accepted");
+    expect(strumok_window_mut(&parts, one, LENGTH, 2, 13) == 0, "the same again is accepted");
     expect(memcmp(one, three, LENGTH) == 0, "and deciphers");
 }
 
@@ -112,9 +112,9 @@ static void test_number(uint64_t want, uint64_t size, uint64_t position, size_t 
     old = s;
     fill(buffer);
     fill(held);
-    number = window_mut(&s, buffer, length, start, count);
+    number = strumok_window_mut(&s, buffer, length, start, count);
     if (number != want)
-        printf("window_mut: size %" PRIu64 ", position %" PRIu64 ", %zu bytes, start %zu, count %zu: %" PRIu64 "\n", size, position,
+        printf("strumok_window_mut: size %" PRIu64 ", position %" PRIu64 ", %zu bytes, start %zu, count %zu: %" PRIu64 "\n", size, position,
                length, start, count, number);
     expect(number == want, "the number of this call");
     if (want != 0) {
@@ -152,5 +152,5 @@ int main(void)
     test_one_word();
     test_portions();
     test_numbers();
-    return report("window_mut");
+    return report("strumok_window_mut");
 }

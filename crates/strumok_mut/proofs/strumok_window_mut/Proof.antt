@@ -1,6 +1,6 @@
--- `strumok_mut::window_mut` meets its contract: a walk of its MIR, statement by statement. The borrow of the state is opened and the state is
--- copied; the buffer goes on to `window` for good; the state that `window` answers with is stored, and the borrow is closed at it. All that the
--- walk knows of `window` is that it meets its contract.
+-- `strumok_mut::strumok_window_mut` meets its contract: a walk of its MIR, statement by statement. The borrow of the state is opened and the
+-- state is copied; the buffer goes on to `window` for good; the state that `window` answers with is stored, and the borrow is closed at it. All
+-- that the walk knows of `window` is that it meets its contract.
 use mathlib.Core.Path.{_≡_, refl, ap}
 use Prim.Native.Nat.{ℕ, _<_, _^_}
 use mathlib.Core.List.{[], _∷_, List}
@@ -54,13 +54,13 @@ use Rattle.applying.proofs.window.Symbol as window-def
 use Rattle.applying.proofs.window.Symbol.{name as #applying·window}
 use Rattle.applying.proofs.window.Met as window-thm
 use Rattle.strumok_mut.proofs.Walks.{R, mach, Known, state-typed, state-owned, All, joined, joined-in, hears, ends-saying, then-counts}
-use Rattle.strumok_mut.proofs.window_mut.Key.{name as #strumok-mut·window-mut}
-use Rattle.strumok_mut.proofs.window_mut as window-mut
-use Rattle.strumok_mut.proofs.window_mut.Statement as stated
-use Rattle.strumok_mut.proofs.window_mut.Code as code
+use Rattle.strumok_mut.proofs.strumok_window_mut.Key.{name as #strumok-mut·strumok-window-mut}
+use Rattle.strumok_mut.proofs.strumok_window_mut as strumok-window-mut
+use Rattle.strumok_mut.proofs.strumok_window_mut.Statement as stated
+use Rattle.strumok_mut.proofs.strumok_window_mut.Code as code
 
 -- what is had at exit: the state that was lent, still; the buffer has been given up
-abbrev stayed : Stays (window-mut.ended .signature .params) (window-mut.ended .kept)
+abbrev stayed : Stays (strumok-window-mut.ended .signature .params) (strumok-window-mut.ended .kept)
 stayed = (stay-ref (0 ∷ []) tt (plain (λ _. R)), (gave-slice (1 ∷ []) tt (plain (λ _. u8)), (stay-none (λ _. usize) yes, (stay-none (λ _. usize) yes, tt))))
 
 -- the contract that the proof cites
@@ -75,7 +75,7 @@ state-known : (r : Answer) {v : Val} → Is P.the-row r (v ∷ []) → Known (r 
 state-known r {v} is = LL.owed P.the-type P′.the-laws r (v ∷ []) is .1 .0
 
 module _ {M : Type 1} (𝓤 : URA M) (H : Heap 𝓤) (A : Atoms 𝓤) (W : Given 𝓤 H A) (at-mem : Memory → SProp 𝓤) (run : Routine → Fun 𝓤) (κ κ′ : Lft)
-    (bounds : AllOutlive 2 (window-mut.signature .outlives) (κ, (κ′, tt))) (q q′ : Share) (state : RefT State) (buffer : RefT (List ℕ)) (start count : ℕ) (start-fits : start < 2 ^ 64) (count-fits : count < 2 ^ 64) where
+    (bounds : AllOutlive 2 (strumok-window-mut.signature .outlives) (κ, (κ′, tt))) (q q′ : Share) (state : RefT State) (buffer : RefT (List ℕ)) (start count : ℕ) (start-fits : start < 2 ^ 64) (count-fits : count < 2 ^ 64) where
   abbrev a : RefT State × (RefT (List ℕ) × (ℕ × (ℕ × Unit {0})))
   a = (state, (buffer, (start, (count, tt))))
 
@@ -89,7 +89,7 @@ module _ {M : Type 1} (𝓤 : URA M) (H : Heap 𝓤) (A : Atoms 𝓤) (W : Given
   vals = (ptr ∷ [], (slice ∷ [], (vint w64 start ∷ [], (vint w64 count ∷ [], tt))))
 
   abbrev Walked : Contract 𝓤
-  Walked = walkOf 𝓤 H A window-mut.ended stayed (window-mut.clauses 𝓤 H A at-mem run)
+  Walked = walkOf 𝓤 H A strumok-window-mut.ended stayed (strumok-window-mut.clauses 𝓤 H A at-mem run)
 
   -- what the triple binds outside
   abbrev bound : Walked .Ghost
@@ -122,14 +122,14 @@ module _ {M : Type 1} (𝓤 : URA M) (H : Heap 𝓤) (A : Atoms 𝓤) (W : Given
   exits : (r : Answer) (zs : List ℕ) → r .number < 2 ^ 64 → All (Ensured r zs) → length zs ≡ length (buffer .now) → ent 𝓤 (⋆ 𝓤 H A (had r zs)) (Walked .post bound (vint w64 (r .number)))
   exits r zs fits e l =
       qed W (had r zs) ∵
-      suffices ! _ (ends-saying 𝓤 H A window-mut.ended stayed (window-mut.clauses 𝓤 H A at-mem run) W bound (vint w64 (r .number)) (r .number) (r .state, (zs, (tt, (tt, tt)))) (tt, (l, (tt, (tt, tt))))
+      suffices ! _ (ends-saying 𝓤 H A strumok-window-mut.ended stayed (strumok-window-mut.clauses 𝓤 H A at-mem run) W bound (vint w64 (r .number)) (r .number) (r .state, (zs, (tt, (tt, tt)))) (tt, (l, (tt, (tt, tt))))
       (joined-in 𝓤 (_ ∷ _ ∷ _ ∷ []) ((λ i. e .0 i .number), ((λ i. e .0 i .state), (e .1 .0, tt))))) $
       move ! (2 ∷ 3 ∷ []) $ join ! $ frame ! $ feqI ! (List Val) (ptr ∷ []) (ptr ∷ []) refl $ fjoin3 ! $ move ! (1 ∷ []) $ then-counts ! start-fits count-fits $ move ! (1 ∷ []) $ fjoin ! $
       owned ! u64 (Is u64) (uint-makes 𝓤 H A W w64) (r .number) _ (refl, fits) $ move ! (1 ∷ []) $ done !
 
   -- ---- the walk
   module _ (C : Calls 𝓤 H) (Λ : Loops 𝓤 H) (fm : FmC 𝓤 H (W .laws) C) (known : Triple 𝓤 (C #applying·window) (Window 𝓤 H A at-mem run)) where
-    walk : Room u8 (length (buffer .now)) → ent 𝓤 (onEntry 𝓤 H A window-mut.signature (κ, (κ′, tt)) (q, (q′, tt)) a vals) (WpFn 𝓤 H C Λ code.function (ptr ∷ slice ∷ vint w64 start ∷ vint w64 count ∷ []) (Walked .post bound))
+    walk : Room u8 (length (buffer .now)) → ent 𝓤 (onEntry 𝓤 H A strumok-window-mut.signature (κ, (κ′, tt)) (q, (q′, tt)) a vals) (WpFn 𝓤 H C Λ code.function (ptr ∷ slice ∷ vint w64 start ∷ vint w64 count ∷ []) (Walked .post bound))
     walk room =
         qed W ((‵ (flft κ q) ⊛ ‵ (flft κ′ q′) ⊛ ‵ ftrue) ∷ ‵ (owns (MutRef (named 0) κ R ∷ MutSlice (named 1) κ′ u8 ∷ usize ∷ usize ∷ []) a vals) ∷ []) ∵
         enter ! C Λ code.function (ptr ∷ slice ∷ vint w64 start ∷ vint w64 count ∷ []) _ $
@@ -173,26 +173,26 @@ module _ {M : Type 1} (𝓤 : URA M) (H : Heap 𝓤) (A : Atoms 𝓤) (W : Given
         keep ! (0 ∷ 1 ∷ 2 ∷ 4 ∷ 5 ∷ []) $ by ! (exits r (zs .1 .0) (number-fits r is) e l)))))))))))))))))))
 
 module _ {M : Type 1} (𝓤 : URA M) (H : Heap 𝓤) (A : Atoms 𝓤) (W : Given 𝓤 H A) (mem : Memory → SProp 𝓤) (run : Routine → Fun 𝓤) where
-  window-mut-walks : (C : Calls 𝓤 H) (Λ : Loops 𝓤 H) → FmC 𝓤 H (W .laws) C → Triple 𝓤 (C #applying·window) (Window 𝓤 H A mem run)
-      → Walks 𝓤 H A window-mut.ended stayed (WpFn 𝓤 H C Λ code.function) (window-mut.clauses 𝓤 H A mem run)
-  window-mut-walks C Λ fm known =
-      walked 𝓤 H A window-mut.ended stayed (window-mut.clauses 𝓤 H A mem run) (WpFn 𝓤 H C Λ code.function) (λ κs. (ptr-vals, (slice-vals, (uint-vals w64, (uint-vals w64, tt)))))
+  strumok-window-mut-walks : (C : Calls 𝓤 H) (Λ : Loops 𝓤 H) → FmC 𝓤 H (W .laws) C → Triple 𝓤 (C #applying·window) (Window 𝓤 H A mem run)
+      → Walks 𝓤 H A strumok-window-mut.ended stayed (WpFn 𝓤 H C Λ code.function) (strumok-window-mut.clauses 𝓤 H A mem run)
+  strumok-window-mut-walks C Λ fm known =
+      walked 𝓤 H A strumok-window-mut.ended stayed (strumok-window-mut.clauses 𝓤 H A mem run) (WpFn 𝓤 H C Λ code.function) (λ κs. (ptr-vals, (slice-vals, (uint-vals w64, (uint-vals w64, tt)))))
       (λ κs. (mut-tells (named 0) (κs .0) R, (mut-slice-tells (named 1) (κs .1 .0) u8, (uint-tells w64, (uint-tells w64, tt)))))
       (λ κs qs bounds a g are. via 𝓤 _ (fst∗ 𝓤 _ (emp 𝓤))
       (walk 𝓤 H A W mem run (κs .0) (κs .1 .0) bounds (qs .0) (qs .1 .0) (a .0) (a .1 .0) (a .1 .1 .0) (a .1 .1 .1 .0) (are .1 .1 .0 .1) (are .1 .1 .1 .0 .1) C Λ fm known (are .1 .0 .0 .1)))
 
-window-mut-meets : {M : Type 1} (𝓤 : URA M) (H : Heap 𝓤) (A : Atoms 𝓤) → Given 𝓤 H A → (mem : Memory → SProp 𝓤) (run : Routine → Fun 𝓤) (𝓣 : Tables 𝓤 H) → Triple 𝓤 (𝓣 .C #applying·window) (Window 𝓤 H A mem run)
-    → Meets 𝓤 H A window-mut.signature (WpFn 𝓤 H (𝓣 .C) (𝓣 .Λ) code.function) (window-mut.spec 𝓤 H A mem run)
-window-mut-meets 𝓤 H A W mem run 𝓣 known =
-    walk-meets 𝓤 H A window-mut.ended stayed W
+strumok-window-mut-meets : {M : Type 1} (𝓤 : URA M) (H : Heap 𝓤) (A : Atoms 𝓤) → Given 𝓤 H A → (mem : Memory → SProp 𝓤) (run : Routine → Fun 𝓤) (𝓣 : Tables 𝓤 H) → Triple 𝓤 (𝓣 .C #applying·window) (Window 𝓤 H A mem run)
+    → Meets 𝓤 H A strumok-window-mut.signature (WpFn 𝓤 H (𝓣 .C) (𝓣 .Λ) code.function) (strumok-window-mut.spec 𝓤 H A mem run)
+strumok-window-mut-meets 𝓤 H A W mem run 𝓣 known =
+    walk-meets 𝓤 H A strumok-window-mut.ended stayed W
     (goes-ref 𝓤 H A W 2 0 tt (plain (λ _. R)), (goes-gave-slice 𝓤 H A W 2 1 tt (plain (λ _. u8)), (goes-none 𝓤 H A W 2 (λ _. usize) yes (λ κs x f. refl), (goes-none 𝓤 H A W 2 (λ _. usize) yes (λ κs x f. refl), tt))))
-    (window-mut.clauses 𝓤 H A mem run) (WpFn 𝓤 H (𝓣 .C) (𝓣 .Λ) code.function) (WpFn-mono 𝓤 H (W .laws) 𝓣 code.function)
-    (window-mut-walks 𝓤 H A W mem run (𝓣 .C) (𝓣 .Λ) (fmOf 𝓤 H (W .laws) 𝓣) known)
+    (strumok-window-mut.clauses 𝓤 H A mem run) (WpFn 𝓤 H (𝓣 .C) (𝓣 .Λ) code.function) (WpFn-mono 𝓤 H (W .laws) 𝓣 code.function)
+    (strumok-window-mut-walks 𝓤 H A W mem run (𝓣 .C) (𝓣 .Λ) (fmOf 𝓤 H (W .laws) 𝓣) known)
 
-pub window-mut-spec : {M : Type 1} → stated.statement M
+pub strumok-window-mut-spec : {M : Type 1} → stated.statement M
 unfolding code.routine tablesOf
-window-mut-spec 𝓤 H 𝓜 𝓖 𝓡 =
-    entered 𝓤 H (tripleOf 𝓤 H (𝓖 .A) window-mut.signature (window-mut.spec 𝓤 H (𝓖 .A) (𝓜 .mem) (𝓡 .run)))
-    (tables 𝓤 H 𝓜 𝓡 code.env .C) (tables 𝓤 H 𝓜 𝓡 code.env .Λ) #strumok-mut·window-mut code.function (code.unfolded 𝓤 H 𝓜 𝓡)
-    (window-mut-meets 𝓤 H (𝓖 .A) (givenOf 𝓤 H 𝓜 𝓖) (𝓜 .mem) (𝓡 .run) (tablesOf 𝓤 H 𝓜 (tables 𝓤 H 𝓜 𝓡 code.env))
+strumok-window-mut-spec 𝓤 H 𝓜 𝓖 𝓡 =
+    entered 𝓤 H (tripleOf 𝓤 H (𝓖 .A) strumok-window-mut.signature (strumok-window-mut.spec 𝓤 H (𝓖 .A) (𝓜 .mem) (𝓡 .run)))
+    (tables 𝓤 H 𝓜 𝓡 code.env .C) (tables 𝓤 H 𝓜 𝓡 code.env .Λ) #strumok-mut·strumok-window-mut code.function (code.unfolded 𝓤 H 𝓜 𝓡)
+    (strumok-window-mut-meets 𝓤 H (𝓖 .A) (givenOf 𝓤 H 𝓜 𝓖) (𝓜 .mem) (𝓡 .run) (tablesOf 𝓤 H 𝓜 (tables 𝓤 H 𝓜 𝓡 code.env))
     (cited 𝓤 H (Window 𝓤 H (𝓖 .A) (𝓜 .mem) (𝓡 .run)) 𝓜 𝓡 code.env #applying·window window-def.routine code.calls-applying·window (window-thm.met 𝓤 H 𝓜 𝓖 𝓡)))
