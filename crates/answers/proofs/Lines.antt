@@ -15,7 +15,7 @@ use Rattle.galois.proofs.Computed.{both, both-left, both-right}
 use Rattle.generator.specs.declared.State.{State}
 use Rattle.answers.specs.Numbers.{limit, accepted, refusedKeyLength, refusedIvLength, refusedSizeMark, refusedPositionAbove, refusedTargetShorter, refusedWindowPastEnd, refusedNewPositionAbove, refusedNewPositionBelow, refusedKeyTargetLength}
 use Rattle.answers.specs.Tests.{Test, keyLengthTest, ivLengthTest, sizeMarkTest, positionTest, targetTest, windowTest, newPosition, newPositionAboveTest, newPositionBelowTest, keyTargetTest, stateTests, returned, answerOf, written}
-use Rattle.answers.specs.Lines.{Line, keyLengthLine, ivLengthLine, sizeMarkLine, positionLine, targetLine, windowLine, newPositionAboveLine, newPositionOnLine, newPositionBelowLine, keyTargetLine, stateLines, numbersOf, NumberOfFirst, NoneLower, NoneApplies, RefusesExactly, TableNumbers}
+use Rattle.answers.specs.Lines.{Line, keyLengthLine, ivLengthLine, sizeMarkLine, positionLine, targetLine, windowLine, newPositionAboveLine, newPositionOnLine, newPositionBelowLine, keyTargetLine, stateLines, numbersOf, NumberOfFirst, NoneLower, NoneApplies, RefusesExactly, LineLaws}
 use Rattle.answers.proofs.Tests.{one-of, is-one-of, numbered, returned-none}
 
 -- ---- lists of tests
@@ -170,7 +170,12 @@ key-target-decides s len = is-not refusedKeyTargetLength len (s .size / 8)
 pub state-decides : (s : State) {Rest : Type 0} → Rest → DecideThen Rest (stateTests s) (stateLines s)
 state-decides s rest = (size-mark-decides s, λ t3. (position-decides s, λ t4. rest))
 
--- ---- the numbers
+-- ---- the laws
 
-pub table-numbers : TableNumbers
-table-numbers key iv s len n start to = refl
+pub line-laws : LineLaws
+line-laws =
+    record {
+      table-numbers = λ key iv s len n start to. refl;
+      well-formed = λ s. none-applies (returned (stateTests s)) (stateLines s) (first-line (stateTests s) (stateLines s) (state-decides s tt));
+      well-formed-only = λ s. accepted-none (stateTests s) (stateLines s) tt (state-decides s tt);
+    }

@@ -8,6 +8,7 @@ use lib.ListN.{length}
 use lib.Signed.{_<ℤ_}
 use Rattle.generator.specs.declared.State.{State}
 use Rattle.answers.specs.declared.Answer.{Answer}
+use Rattle.answers.specs.Tests.{WellFormed}
 use Rattle.answers.specs.Numbers.{limit, accepted, refusedKeyLength, refusedIvLength, refusedSizeMark, refusedPositionAbove, refusedTargetShorter, refusedWindowPastEnd, refusedNewPositionAbove, refusedNewPositionBelow, refusedKeyTargetLength}
 
 -- a line of the table: its number, and when it applies
@@ -98,14 +99,17 @@ pub record RefusesExactly (a : Answer) (lines : List Line) (numbers : List ℕ) 
 abbrev pub WritesNothing : Answer → (held left : List ℕ) → Type 0
 WritesNothing a held left = (a .number ≡ accepted → ⊥) → left ≡ held
 
--- ---- the numbers in the paper's numerals
+-- ---- the laws: proofs/Lines.antt has `line-laws : LineLaws`
 
--- the table's first column, for the lines in its order; line 10 is in checking
-abbrev pub TableNumbers : Type 0
-TableNumbers =
-    (key iv : List ℕ) (s : State) (len n start : ℕ) (to : ℤ)
-    → numbersOf (
-    keyLengthLine key ∷ ivLengthLine iv ∷ sizeMarkLine s ∷ positionLine s ∷ targetLine n len ∷ windowLine len start n ∷ newPositionAboveLine to
-    ∷ newPositionBelowLine to ∷ keyTargetLine s len ∷ []
-    )
-    ≡ 1 ∷ 2 ∷ 3 ∷ 4 ∷ 5 ∷ 6 ∷ 7 ∷ 8 ∷ 9 ∷ []
+pub record LineLaws : Type 0 where
+  -- the table's first column in numerals, for the lines in its order; line 10 is in checking
+  pub table-numbers :
+      (key iv : List ℕ) (s : State) (len n start : ℕ) (to : ℤ)
+      → numbersOf (
+      keyLengthLine key ∷ ivLengthLine iv ∷ sizeMarkLine s ∷ positionLine s ∷ targetLine n len ∷ windowLine len start n ∷ newPositionAboveLine to
+      ∷ newPositionBelowLine to ∷ keyTargetLine s len ∷ []
+      )
+      ≡ 1 ∷ 2 ∷ 3 ∷ 4 ∷ 5 ∷ 6 ∷ 7 ∷ 8 ∷ 9 ∷ []
+  -- "A state is well-formed when neither 3 nor 4 of the table below applies to it."
+  pub well-formed : (s : State) → NoneApplies (stateLines s) → WellFormed s
+  pub well-formed-only : (s : State) → WellFormed s → NoneApplies (stateLines s)

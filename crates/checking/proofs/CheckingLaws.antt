@@ -19,7 +19,7 @@ use Rattle.answers.specs.Tests.{returned, WellFormed}
 use Rattle.answers.specs.Lines.{NoneApplies}
 use Rattle.answers.proofs.Lines.{Decides, DecideAll, first-line, none-applies, decide-append, refuses-exactly, writes-nothing, iv-length-decides, state-decides, key-target-decides}
 use Rattle.opening.specs.Opening.{Leads}
-use Rattle.opening.proofs.Opened.{key-of-size, both-fit, key-and-iv}
+use Rattle.opening.proofs.Opened.{key-of-size, key-and-iv}
 use Rattle.opening.proofs.OpeningLaws.{opening-laws}
 use Rattle.checking.specs.Checking.{loadedOf, keyOf, loadsAgain, noKeyLeadsTest, noKeyLeadsLine, testsBefore10, linesBefore10, checkingTests, checkingLines, checked, checkedTarget}
 use Rattle.checking.specs.CheckingLaws.{CheckingRefusals, Stored, StoredChecked, ChecksExactly, CheckingLaws}
@@ -61,7 +61,9 @@ module _ (s : State) (iv : List ℕ) (words : EighteenWords (registersOf s)) (by
   found-leads e =
       let n = s .position / 8 in
       record {
-        opening = record { key-bytes = found-bytes s iv; iv-bytes = bytes; opens = both-fit (keyOf s iv) iv (found-sized .0) (fits .iv-length) };
+        opening =
+            opening-laws .opening-accepts (keyOf s iv) iv
+            (record { key-bytes = found-bytes s iv; key-length = found-sized .0; iv-bytes = bytes; iv-length = fits .iv-length });
         size = found-sized .1;
         registers = sym (ap (λ (r : Registers). iterate (next Ordinary) n (initialised r)) (registers-same (load (keyOf s iv) iv) (loadedOf s) e) ∙ loading-laws .walk-back-undone n .undone (registersOf s) words);
       }

@@ -8,7 +8,7 @@ use lib.ListN.{length, set}
 use Rattle.galois.specs.Words.{at, byte, word, tabulate}
 use Rattle.galois.proofs.Bytes.{byte-xor, byte-word}
 use Rattle.galois.proofs.Spread.{tabulate-ext}
-use Rattle.masking.specs.Masking.{byteAt, masked}
+use Rattle.masking.specs.Masking.{byteAt, masked, MaskingLaws}
 use Rattle.masking.proofs.Masked.{masked-tabulate}
 
 pub tabulate-all : (l : List ℕ) → l ≡ tabulate (length l) (at l)
@@ -41,3 +41,7 @@ word-masked l z n h =
     tabulate-ext 8 (byte (bitXor (word 8 (at l)) z)) (λ j. bitXor (at l j) (byteAt z (0 + j)))
     (λ j hj. byte-xor j (word 8 (at l)) z ∙ ap₂ bitXor (byte-word 8 (at l) h j hj) (sym (byte-at-within z (0 + j) (omega arith) ∙ ap (byte z) (omega arith))))
     ∙ sym (masked-tabulate (byteAt z) 0 l ∙ ap (λ (m : ℕ). tabulate m (λ j. bitXor (at l j) (byteAt z (0 + j)))) n)
+
+pub masking-laws : MaskingLaws
+unfolding byteAt
+masking-laws = record { least-significant-first = refl }

@@ -1,2 +1,2 @@
--- The definitions that the contracts of masking cite.
+-- The definitions that the contracts of masking cite, and their law.
 pub mod Masking

@@ -45,8 +45,9 @@ key-and-iv {key} {iv} o =
       iv-length = eqb-true (length iv) 32 (not-false (eqb (length iv) 32) (returned-none (ivLengthTest iv) [] tt rest .0));
     }
 
-pub both-fit : (key iv : List ℕ) → (length key ≡ 32) ⊎ (length key ≡ 64) → length iv ≡ 32 → returned (openingTests key iv) ≡ accepted
-both-fit key iv h l = rw (one-of (length key) 32 64 h, l)
+pub key-and-iv-open : {key iv : List ℕ} → KeyAndIv key iv → OpeningAccepts key iv
+key-and-iv-open {key} {iv} f =
+    record { key-bytes = f .key-bytes; iv-bytes = f .iv-bytes; opens = rw (one-of (length key) 32 64 (f .key-length), f .iv-length) }
 
 -- ---- opening
 

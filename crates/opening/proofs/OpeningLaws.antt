@@ -10,7 +10,7 @@ use Rattle.answers.proofs.Tests.{one-of}
 use Rattle.answers.proofs.Lines.{refuses-exactly, key-length-decides, iv-length-decides}
 use Rattle.opening.specs.Opening.{blank, openedState, openingTests, openingLines, opened, OpeningAccepts, Leads}
 use Rattle.opening.specs.OpeningLaws.{OpeningRefusals, OpeningsDiffer, OpeningLaws}
-use Rattle.opening.proofs.Opened.{key-and-iv}
+use Rattle.opening.proofs.Opened.{key-and-iv, key-and-iv-open}
 
 refuses : OpeningRefusals
 refuses key iv =
@@ -41,6 +41,8 @@ pub opening-laws : OpeningLaws
 opening-laws =
     record {
       refuses = refuses;
+      opening-accepts = λ key iv. key-and-iv-open;
+      opening-accepts-only = λ key iv. key-and-iv;
       opened-leads = opened-leads;
       opened-well-formed = opened-well-formed;
       opened-position = opened-position;

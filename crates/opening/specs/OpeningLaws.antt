@@ -3,7 +3,7 @@ use mathlib.Core.Path.{_≡_}
 use mathlib.Core.List.{List, [], _∷_}
 use Prim.Native.Nat.{ℕ}
 use Rattle.generator.specs.declared.State.{State}
-use Rattle.loading.specs.Loading.{sizeMark, registersAt}
+use Rattle.loading.specs.Loading.{KeyAndIv, sizeMark, registersAt}
 use Rattle.answers.specs.Tests.{stateTests, returned, WellFormed}
 use Rattle.answers.specs.Lines.{RefusesExactly}
 use Rattle.opening.specs.Opening.{blank, openingLines, opened, OpeningAccepts, Leads}
@@ -21,6 +21,9 @@ OpeningsDiffer =
 
 pub record OpeningLaws : Type 0 where
   pub refuses : OpeningRefusals
+  -- opening accepts just the keys of 256 or 512 bits with an IV of 256
+  pub opening-accepts : (key iv : List ℕ) → KeyAndIv key iv → OpeningAccepts key iv
+  pub opening-accepts-only : (key iv : List ℕ) → OpeningAccepts key iv → KeyAndIv key iv
   -- a key leads to the state that it opens, which is well-formed and stands at position 0
   pub opened-leads : (key iv : List ℕ) → OpeningAccepts key iv → Leads key iv (opened key iv .state)
   pub opened-well-formed : (key iv : List ℕ) → OpeningAccepts key iv → WellFormed (opened key iv .state)

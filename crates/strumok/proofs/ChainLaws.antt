@@ -114,4 +114,5 @@ chain-laws =
       reached-position = reached-position;
       restores-from-any-byte = restores-from-any-byte;
       blank-refused = blank-refused;
+      blank-refused-with = λ tables source target buffer start count. (refl, refl);
     }

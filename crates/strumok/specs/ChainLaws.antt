@@ -5,11 +5,14 @@ use Prim.Native.Nat.{ℕ, _≤_}
 use lib.IntN.{pos}
 use lib.ListN.{length, take, drop}
 use Rattle.generator.specs.declared.State.{State}
+use Rattle.generator.specs.declared.Kind.the-variants.{Ordinary}
+use Rattle.generator.specs.Functions.{nextIn}
 use Rattle.answers.specs.Numbers.{accepted}
 use Rattle.answers.specs.Tests.{WellFormed}
 use Rattle.opening.specs.Opening.{blank, opened, OpeningAccepts, Leads}
 use Rattle.moving.specs.Moving.{moved}
 use Rattle.applying.specs.Applying.{applied, appliedTarget}
+use Rattle.applying.specs.AnyStep.{appliedBy, windowedBy}
 use Rattle.strumok.specs.Chains.{Call, answerTo, total, IvFits, Reached}
 
 -- what a portion wrote of xs, from its byte k on, applied again after a move there: into another target, the bytes of xs
@@ -36,3 +39,7 @@ pub record ChainLaws : Type 0 where
       → RestoredAfterMove s xs target k other
   -- the blank state is refused with 3 by every call, but that the check tests the length of its IV before
   pub blank-refused : (c : Call) → IvFits c → answerTo blank c ≡ record { number = 3; state = blank }
+  -- over lent tables too, whatever these hold
+  pub blank-refused-with :
+      (tables : List (List ℕ)) (source target buffer : List ℕ) (start count : ℕ) → let f = nextIn tables Ordinary in
+      (appliedBy f blank source target ≡ record { number = 3; state = blank }) × (windowedBy f blank buffer start count ≡ record { number = 3; state = blank })
