@@ -1,5 +1,6 @@
 -- The laws of the cipher program's input that specs/FramingLaws.antt states.
 use mathlib.Core.Path.{_≡_, refl, sym, ap, ap₂, _∙_}
+use mathlib.Core.Logic.{_⊎_, inl, inr}
 use mathlib.Core.Bool.{Bool, true, false, cond}
 use mathlib.Core.List.{List, [], _∷_, _++_, append-nil}
 use Prim.Native.Nat.{ℕ, _+_, _≤_}
@@ -16,6 +17,7 @@ use Rattle.loading.specs.Loading.{Bytes}
 use Rattle.answers.specs.declared.Answer.{Answer}
 use Rattle.answers.specs.Numbers.{limit, accepted}
 use Rattle.answers.specs.Tests.{windowTest, returned, WellFormed}
+use Rattle.answers.specs.Lines.{NumberOfFirst}
 use Rattle.opening.specs.Opening.{opened, OpeningAccepts, Leads}
 use Rattle.positions.specs.Positions.{movedTo}
 use Rattle.applying.specs.Applying.{keystreamByte, keystreamByteOf, withKeystream, windowTests, windowed, windowedBuffer}
@@ -24,8 +26,8 @@ use Rattle.applying.proofs.Portions.{accepts}
 use Rattle.positions.proofs.PositionLaws.{position-laws}
 use Rattle.applying.proofs.ApplyingLaws.{applying-laws}
 use Rattle.opening.proofs.OpeningLaws.{opening-laws}
-use Rattle.framing.specs.Framing.{keyLengthIn, keyIn, ivIn, dataIn, started, dataOut, piecesOut, joined}
-use Rattle.framing.specs.FramingLaws.{FramingLaws}
+use Rattle.framing.specs.Framing.{keyLengthIn, keyIn, ivIn, dataIn, started, refusalLine, dataOut, piecesOut, afterPieces, joined}
+use Rattle.framing.specs.FramingLaws.{headerLines, RefusedWith, FramingLaws}
 use Rattle.framing.proofs.Header.{header, header-alone, parts}
 
 -- ---- a piece
@@ -68,6 +70,19 @@ module _ (key iv : List ℕ) where
       )
       ∙ sym (masked-append (keystreamByte key iv) p piece (joined pieces))
 
+state-joined : (s : State) (pieces : List (List ℕ)) → WellFormed s → s .position + length (joined pieces) ≤ limit
+    → afterPieces s pieces ≡ movedTo s (s .position + length (joined pieces))
+state-joined s [] ok room = sym (position-laws .moved-here s) ∙ ap (movedTo s) (omega arith)
+state-joined s (piece ∷ pieces) ok room =
+    let p = s .position in
+    let long = length-append piece (joined pieces) in
+    let here : p + length piece ≤ limit = omega (arith, room, long) in
+    let there = position-laws .position-moved s (p + length piece) in
+    ap (λ (t : State). afterPieces t pieces) (piece-state s piece ok here)
+    ∙ state-joined (movedTo s (p + length piece)) pieces (position-laws .moved-to-well-formed s (p + length piece) ok here) (rw there (omega (arith, room, long)))
+    ∙ position-laws .moved-on s (p + length piece) _ (omega arith) (rw there (omega arith))
+    ∙ ap (movedTo s) (rw there (omega (arith, long)))
+
 -- ---- the whole input
 
 module _ (input : List ℕ) (bytes : Bytes input) where
@@ -101,5 +116,26 @@ pieces input ps bytes e all =
     (opening-laws .opened-leads (keyIn input) (ivIn input) accepts) (opening-laws .opened-well-formed (keyIn input) (ivIn input) accepts) room
     ∙ ap₂ (λ (p : ℕ) (xs : List ℕ). masked (keystreamByte (keyIn input) (ivIn input)) p xs) from-0 all
 
+state-after :
+    (input : List ℕ) (pieces : List (List ℕ)) → Bytes input → started input .number ≡ accepted → length (joined pieces) ≤ limit
+    → afterPieces (started input .state) pieces ≡ movedTo (started input .state) (length (joined pieces))
+unfolding started
+state-after input ps bytes e room =
+    let s = opened (keyIn input) (ivIn input) .state in
+    let accepts = accepts-both input bytes e in
+    let from-0 = opening-laws .opened-position (keyIn input) (ivIn input) accepts in
+    state-joined s ps (opening-laws .opened-well-formed (keyIn input) (ivIn input) accepts) (omega (arith, from-0, room))
+    ∙ ap (movedTo s) (omega (arith, from-0))
+
+-- ---- refusals
+
+refusal-line : (input : List ℕ) → (started input .number ≡ accepted → ⊥) → RefusedWith input 1 49 ⊎ RefusedWith input 2 50
+refusal-line input refused = by (header input .first)
+  where
+    by : NumberOfFirst (started input .number) (headerLines input) → RefusedWith input 1 49 ⊎ RefusedWith input 2 50
+    by (inl key) = inl (key .1, ap refusalLine (key .1))
+    by (inr (_, inl iv)) = inr (iv .1, ap refusalLine (iv .1))
+    by (inr (_, inr (_, none))) = absurd (refused none)
+
 pub framing-laws : FramingLaws
-framing-laws = record { parts = parts; header = header; header-alone = header-alone; pieces = pieces }
+framing-laws = record { parts = parts; header = header; refusal-line = refusal-line; header-alone = header-alone; pieces = pieces; state-after = state-after }

@@ -15,7 +15,7 @@ use Rattle.answers.specs.Tests.{keyLengthTest, ivLengthTest}
 use Rattle.opening.specs.Opening.{blank, openedState, openingTests, opened}
 use Rattle.answers.specs.Lines.{NoneApplies, RefusesExactly}
 use Rattle.answers.proofs.Lines.{Decides, key-length-decides, iv-length-decides, refuses-exactly}
-use Rattle.framing.specs.Framing.{keyLengthIn, keyIn, ivIn, dataIn, started}
+use Rattle.framing.specs.Framing.{keyLengthIn, keyIn, ivIn, dataIn, lacking, started}
 use Rattle.framing.specs.FramingLaws.{headerLines}
 
 -- below or not
@@ -33,6 +33,16 @@ take-min m r l ends within = by (below-or-not (length l) m)
     by : (length l < m) ⊎ (m ≤ length l) → take r l ≡ take m l
     by (inl h) = take-all r l (omega (arith, ends (omega arith))) ∙ sym (take-all m l (omega arith))
     by (inr h) = ap (λ (i : ℕ). take i l) (within h)
+
+-- ---- what a header lacks
+
+pub lacks-first : (l : List ℕ) → length l ≡ 0 → 1 ≡ lacking l
+lacks-first [] e = refl
+lacks-first (x ∷ l) e = absurd (omega (arith, e))
+
+pub lacks-rest : {r : ℕ} (l : List ℕ) → (length l ≡ 0 → ⊥) → r ≡ 33 + keyLengthIn l - length l → r ≡ lacking l
+lacks-rest [] some e = absurd (some refl)
+lacks-rest (k ∷ rest) some e = omega (arith, e)
 
 module _ (input : List ℕ) where
   abbrev n : ℕ

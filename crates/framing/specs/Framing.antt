@@ -1,7 +1,7 @@
 -- Document 01 on the cipher program: "one byte giving the key length, the key, 32 IV bytes, data to the end". The input is a list of bytes.
 use mathlib.Core.Bool.{cond}
 use mathlib.Core.List.{List, [], _∷_, _++_}
-use Prim.Native.Nat.{ℕ, _+_}
+use Prim.Native.Nat.{ℕ, _+_, _-_, _%_}
 use lib.Dec.{ltb}
 use lib.ListN.{length, take, drop}
 use Rattle.galois.specs.Words.{at}
@@ -28,9 +28,18 @@ ivIn input = take 32 (drop (1 + keyLengthIn input) input)
 abbrev pub dataIn : (input : List ℕ) → List ℕ
 dataIn input = drop (33 + keyLengthIn input) input
 
+-- how many bytes are still to be read of a header that begins so: its first byte, then all that are left up to the end of the IV
+abbrev pub lacking : (header : List ℕ) → ℕ
+lacking [] = 1
+lacking (k ∷ rest) = k + 32 - length rest
+
 -- the state that the data begin with, or the refusal before them
 unfoldable pub started : (input : List ℕ) → Answer
 started input = opened (keyIn input) (ivIn input)
+
+-- the bytes of the line of a refusal: the word `refused`, a space, the number's last decimal digit, a line feed
+abbrev pub refusalLine : (number : ℕ) → List ℕ
+refusalLine number = 114 ∷ 101 ∷ 102 ∷ 117 ∷ 115 ∷ 101 ∷ 100 ∷ 32 ∷ (48 + number % 10) ∷ 10 ∷ []
 
 -- "It writes the data with the keystream applied. .. At the limit it stops after 16,777,216 data bytes."
 unfoldable pub dataOut : (input : List ℕ) → List ℕ
@@ -40,6 +49,11 @@ dataOut input = masked (keystreamByte (keyIn input) (ivIn input)) 0 (take limit 
 abbrev pub piecesOut : State → (pieces : List (List ℕ)) → List (List ℕ)
 piecesOut s [] = []
 piecesOut s (piece ∷ pieces) = windowedBuffer s piece 0 (length piece) ∷ piecesOut (windowed s piece 0 (length piece) .state) pieces
+
+-- the state that these calls leave
+abbrev pub afterPieces : State → (pieces : List (List ℕ)) → State
+afterPieces s [] = s
+afterPieces s (piece ∷ pieces) = afterPieces (windowed s piece 0 (length piece) .state) pieces
 
 -- pieces one after another
 abbrev pub joined : (pieces : List (List ℕ)) → List ℕ

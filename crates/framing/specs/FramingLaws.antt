@@ -2,13 +2,14 @@
 use mathlib.Core.Path.{_≡_}
 use mathlib.Core.Logic.{_⊎_}
 use mathlib.Core.List.{List, [], _∷_, _++_}
-use Prim.Native.Nat.{ℕ, _+_, _<_}
+use Prim.Native.Nat.{ℕ, _+_, _<_, _≤_}
 use lib.ListN.{length, take}
 use Rattle.loading.specs.Loading.{Bytes}
 use Rattle.answers.specs.Numbers.{limit, accepted, refusedKeyLength, refusedIvLength}
 use Rattle.opening.specs.Opening.{blank}
+use Rattle.positions.specs.Positions.{movedTo}
 use Rattle.answers.specs.Lines.{Line, RefusesExactly}
-use Rattle.framing.specs.Framing.{keyLengthIn, keyIn, ivIn, dataIn, started, dataOut, piecesOut, joined}
+use Rattle.framing.specs.Framing.{keyLengthIn, keyIn, ivIn, dataIn, started, refusalLine, dataOut, piecesOut, afterPieces, joined}
 
 -- "Input too short for the key counts as 1, too short for the IV as 2", beside opening's own 1 for a key length
 abbrev pub headerLines : (input : List ℕ) → List Line
@@ -17,14 +18,25 @@ headerLines input =
     ∷ record { number = refusedIvLength; When = length input < 33 + keyLengthIn input }
     ∷ []
 
+-- an input that is refused with this number, whose line is the bytes of `refused `, this digit, and a line feed
+abbrev pub RefusedWith : (input : List ℕ) → (number digit : ℕ) → Type 0
+RefusedWith input number digit =
+    (started input .number ≡ number) × (refusalLine (started input .number) ≡ 114 ∷ 101 ∷ 102 ∷ 117 ∷ 115 ∷ 101 ∷ 100 ∷ 32 ∷ digit ∷ 10 ∷ [])
+
 pub record FramingLaws : Type 0 where
   -- "one byte giving the key length, the key, 32 IV bytes, data to the end"
   pub parts : (input : List ℕ) → started input .number ≡ accepted → length (keyIn input) ∷ (keyIn input ++ (ivIn input ++ dataIn input)) ≡ input
   -- what is refused before the data, with which number; empty input is too short for the key
   pub header : (input : List ℕ) → RefusesExactly (started input) (headerLines input) (1 ∷ 2 ∷ []) blank
-  -- the header is enough: its first byte and as many after it as `header_rest` says, or the whole input where that is shorter
+  -- "a refusal before data writes `refused 1` or `refused 2` with a line feed": 49 and 50 are the digits
+  pub refusal-line : (input : List ℕ) → (started input .number ≡ accepted → ⊥) → RefusedWith input 1 49 ⊎ RefusedWith input 2 50
+  -- the header is enough: its first byte and as many after it as that one says, or the whole input where that is shorter
   pub header-alone : (input : List ℕ) → started (take (33 + keyLengthIn input) input) ≡ started input
   -- however the data up to the limit are divided into pieces, what the calls leave in them is the data with the keystream applied
   pub pieces :
       (input : List ℕ) (pieces : List (List ℕ)) → Bytes input → started input .number ≡ accepted → joined pieces ≡ take limit (dataIn input)
       → joined (piecesOut (started input .state) pieces) ≡ dataOut input
+  -- and the calls leave the state at the position after these data
+  pub state-after :
+      (input : List ℕ) (pieces : List (List ℕ)) → Bytes input → started input .number ≡ accepted → length (joined pieces) ≤ limit
+      → afterPieces (started input .state) pieces ≡ movedTo (started input .state) (length (joined pieces))

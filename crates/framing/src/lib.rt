@@ -1,8 +1,9 @@
 // The cipher program's input: the state that its header opens, and how much of the data to take at a time.
 ghost use mathlib.Core.Path.{_≡_};
 ghost use Prim.Native.Nat.{_+_, _-_, _<_, _≤_, min};
+ghost use lib.ListN.{length};
 ghost use Rattle.answers.specs.Numbers.{limit};
-ghost use Rattle.framing.specs.Framing.{started};
+ghost use Rattle.framing.specs.Framing.{lacking, started, refusalLine};
 use answers::Answer;
 use answers::numbers;
 use generator::State;
@@ -30,12 +31,17 @@ fn least(a: usize, b: usize) -> usize
     if a < b { a } else { b }
 }
 
-// How many bytes come after a header's first byte, which gives the key's length.
-pub fn header_rest(first: u8) -> usize
-    ensures { λ r. ⌜ r ≡ first + 32 ⌝ }
-    ensures { λ r. ⌜ r < 288 ⌝ }
+// How many bytes are still to be read of a header that begins so. One that is no longer than the longest stays so with them.
+pub fn header_lacks(header: &[u8]) -> usize
+    ensures { λ r. ⌜ r ≡ lacking (now (header .entry)) ⌝ }
+    ensures { λ r. ⌜ (length (now (header .entry)) ≤ 288 → length (now (header .entry)) + r ≤ 288) ⌝ }
 {
-    wide(first) + IV_BYTES
+    let n = header.len();
+    if n == 0 {
+        return 1;
+    }
+    let whole = 1 + wide(header[0]) + IV_BYTES;
+    if n < whole { whole - n } else { 0 }
 }
 
 // The state that a header opens; or a refusal, with the blank state. The header may be cut short.
@@ -52,6 +58,14 @@ pub fn start(header: &[u8]) -> Answer
     }
     let iv_end = least(n, key_end + IV_BYTES);
     open(&header[1..key_end], &header[key_end..iv_end])
+}
+
+// The line of a refusal.
+pub fn refusal_line(number: u64) -> [u8; 10]
+    ensures { λ r. ⌜ r ≡ refusalLine number ⌝ }
+{
+    let digit = (48 + number % 10) as u8;
+    [b'r', b'e', b'f', b'u', b's', b'e', b'd', b' ', digit, b'\n']
 }
 
 // How many bytes of a buffer of len the next piece may fill: no more than are left up to the last position.

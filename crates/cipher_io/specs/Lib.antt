@@ -1,0 +1,2 @@
+-- What the contracts of the cipher program say.
+pub mod Passing
