@@ -1,5 +1,6 @@
 //! The cipher program, run with whole and cut inputs, up to the limit and past it, through pipes
-//! and from a file, and compared with what the other implementation says it must write.
+//! and from a file, and compared with what the other implementation says it must write; and what
+//! it says on standard error where a read or a write fails or input is left over.
 //!
 //! The program is target/bin/cipher, or the one that the environment variable STRUMOK_CIPHER names.
 
@@ -14,6 +15,11 @@ use std::time::Duration;
 use strumok_tests::calls::{Cipher, LIMIT};
 use strumok_tests::random::{seed, Random};
 
+/// What the program says on standard error.
+const READING_FAILED: &str = "cipher: reading failed, the output may not be whole\n";
+const WRITING_FAILED: &str = "cipher: writing failed, the output is not whole\n";
+const LEFT_OVER: &str = "cipher: stopped after 16777216 bytes of data, there was more\n";
+
 /// The command that runs the program; it must be there.
 fn program() -> Command {
     let built = Path::new(env!("CARGO_MANIFEST_DIR")).join("../target/bin/cipher");
@@ -27,8 +33,28 @@ fn program() -> Command {
 }
 
 fn start(command: &mut Command, input: Stdio) -> Child {
-    let child = command.stdin(input).stdout(Stdio::piped()).spawn();
+    let (output, errors) = (Stdio::piped(), Stdio::piped());
+    let child = command.stdin(input).stdout(output).stderr(errors).spawn();
     child.expect("the cipher program runs")
+}
+
+/// A program that has ended: what was taken of its output, what it said on standard error.
+struct Ended<T> {
+    taken: T,
+    status: ExitStatus,
+    said: String,
+}
+
+/// Waits for the end of the program, of whose output this was taken.
+fn end<T>(mut child: Child, taken: T) -> Ended<T> {
+    let status = child.wait().expect("wait");
+    let said = whole(child.stderr.take().expect("piped"));
+    let said = String::from_utf8(said).expect("text");
+    Ended {
+        taken,
+        status,
+        said,
+    }
 }
 
 /// Gives the program these pieces of input one after the other, and its output to `take`.
@@ -36,7 +62,7 @@ fn run<'a, T>(
     command: &mut Command,
     pieces: impl Iterator<Item = &'a [u8]> + Send,
     take: impl FnOnce(ChildStdout) -> T,
-) -> (T, ExitStatus) {
+) -> Ended<T> {
     let mut child = start(command, Stdio::piped());
     let mut input = child.stdin.take().expect("piped");
     let output = child.stdout.take().expect("piped");
@@ -50,7 +76,7 @@ fn run<'a, T>(
             }
         });
         let taken = take(output);
-        (taken, child.wait().expect("wait"))
+        end(child, taken)
     })
 }
 
@@ -68,8 +94,9 @@ fn input(random: &mut Random, key_len: u8, data_len: usize) -> Vec<u8> {
     input
 }
 
-/// Stops where the program's output is not what it must be.
-fn compare(what: &str, (written, status): (Vec<u8>, ExitStatus), must: &[u8]) {
+/// Stops where the program's output, or what it said, is not what it must be.
+fn compare(what: &str, ended: Ended<Vec<u8>>, must: &[u8], must_say: &str) {
+    let written = ended.taken;
     if written != must {
         let same = written.iter().zip(must).take_while(|(a, b)| a == b);
         panic!(
@@ -80,13 +107,14 @@ fn compare(what: &str, (written, status): (Vec<u8>, ExitStatus), must: &[u8]) {
             seed()
         );
     }
-    assert!(status.code().is_some(), "{what}: ended by a signal");
+    assert_eq!(ended.said, must_say, "{what}");
+    assert_eq!(ended.status.code(), Some(0), "{what}");
 }
 
 /// Runs the program with this input whole, and compares.
-fn check(cipher: &Cipher, what: &str, input: &[u8]) {
-    let run = run(&mut program(), [input].into_iter(), whole);
-    compare(what, run, &cipher.cipher_program(input));
+fn check(cipher: &Cipher, what: &str, input: &[u8], must_say: &str) {
+    let ended = run(&mut program(), [input].into_iter(), whole);
+    compare(what, ended, &cipher.cipher_program(input), must_say);
 }
 
 #[test]
@@ -97,7 +125,7 @@ fn headers_cut_short() {
         let header = input(&mut random, key_len, 0);
         for cut in 0..=header.len() {
             let what = format!("header of key length {key_len} cut to {cut} bytes");
-            check(&cipher, &what, &header[..cut]);
+            check(&cipher, &what, &header[..cut], "");
         }
     }
 }
@@ -118,7 +146,7 @@ fn data_of_many_lengths() {
     for key_len in [0, 31, 32, 33, 64, 255] {
         for data_len in [0, 1, 7, 8, 9, 65_535, 65_536, 65_537] {
             let what = format!("key length {key_len}, {data_len} data bytes");
-            check(&cipher, &what, &input(&mut random, key_len, data_len));
+            check(&cipher, &what, &input(&mut random, key_len, data_len), "");
         }
     }
 }
@@ -127,16 +155,16 @@ fn data_of_many_lengths() {
 fn data_to_the_limit_and_past_it() {
     let (cipher, mut random) = (Cipher::new(), Random::new(seed()));
     for key_len in [32, 64] {
-        for more in [0, 1000] {
+        for (more, must_say) in [(0, ""), (1, LEFT_OVER), (1000, LEFT_OVER)] {
             let what = format!("key length {key_len}, 16 MiB + {more} data bytes");
             let input = input(&mut random, key_len, LIMIT as usize + more);
-            check(&cipher, &what, &input);
+            check(&cipher, &what, &input, must_say);
         }
     }
 }
 
 #[test]
-fn what_follows_the_limit_is_left() {
+fn one_byte_past_the_limit_is_read() {
     let (cipher, mut random) = (Cipher::new(), Random::new(seed()));
     let input = input(&mut random, 32, LIMIT as usize + 1000);
     let path = Path::new(env!("CARGO_TARGET_TMPDIR")).join("what_follows_the_limit");
@@ -147,9 +175,9 @@ fn what_follows_the_limit_is_left() {
     let rest = file.try_clone().expect("clone");
     let mut child = start(&mut program(), Stdio::from(file));
     let written = whole(child.stdout.take().expect("piped"));
-    let run = (written, child.wait().expect("wait"));
-    compare("a file", run, &cipher.cipher_program(&input));
-    assert!(whole(rest) == input[input.len() - 1000..], "what is left");
+    let ended = end(child, written);
+    compare("a file", ended, &cipher.cipher_program(&input), LEFT_OVER);
+    assert!(whole(rest) == input[input.len() - 999..], "what is left");
 }
 
 #[test]
@@ -157,7 +185,8 @@ fn input_in_small_pieces() {
     let (cipher, mut random) = (Cipher::new(), Random::new(seed()));
     let short = input(&mut random, 64, 300);
     let run_short = run(&mut program(), short.chunks(1), whole);
-    compare("single bytes", run_short, &cipher.cipher_program(&short));
+    let must = cipher.cipher_program(&short);
+    compare("single bytes", run_short, &must, "");
 
     let long = input(&mut random, 32, LIMIT as usize);
     let mut rest = &long[..];
@@ -167,7 +196,8 @@ fn input_in_small_pieces() {
         Some(piece).filter(|piece| !piece.is_empty())
     });
     let run_long = run(&mut program(), pieces, whole);
-    compare("small pieces", run_long, &cipher.cipher_program(&long));
+    let must = cipher.cipher_program(&long);
+    compare("small pieces", run_long, &must, "");
 }
 
 #[test]
@@ -189,7 +219,7 @@ fn output_taken_slowly() {
         }
     };
     let run = run(&mut program(), [&input[..]].into_iter(), slowly);
-    compare("a slow reader", run, &cipher.cipher_program(&input));
+    compare("a slow reader", run, &cipher.cipher_program(&input), "");
 }
 
 #[test]
@@ -201,7 +231,7 @@ fn output_closed_early() {
     let mut ignoring = Command::new("sh");
     ignoring.args(["-c", "trap '' PIPE; exec \"$0\""]);
     ignoring.arg(program().get_program());
-    for mut command in [program(), ignoring] {
+    for (mut command, must_say) in [(program(), ""), (ignoring, WRITING_FAILED)] {
         let input = input.clone();
         let some = |mut output: ChildStdout| {
             let mut written = vec![0; 1000];
@@ -210,9 +240,41 @@ fn output_closed_early() {
         };
         let (ended, end) = mpsc::channel();
         thread::spawn(move || ended.send(run(&mut command, [&input[..]].into_iter(), some)));
-        let (written, _) = end
+        let ended = end
             .recv_timeout(Duration::from_secs(60))
             .expect("the program ends after its output is closed");
-        assert!(written == must[..1000], "the first bytes");
+        assert!(ended.taken == must[..1000], "the first bytes");
+        assert_eq!(ended.said, must_say);
+    }
+}
+
+#[test]
+fn reads_that_fail() {
+    // A directory is opened, and cannot be read: no byte of a header comes.
+    let directory = File::open("/").expect("open a directory");
+    let mut child = start(&mut program(), Stdio::from(directory));
+    let written = whole(child.stdout.take().expect("piped"));
+    let ended = end(child, written);
+    compare("a directory", ended, b"refused 1\n", READING_FAILED);
+}
+
+#[test]
+fn writes_that_fail() {
+    let mut random = Random::new(seed());
+    for (what, input) in [
+        ("a refusal", vec![]),
+        ("data", input(&mut random, 32, 100_000)),
+    ] {
+        let full = File::options().write(true).open("/dev/full");
+        let mut command = program();
+        command.stdin(Stdio::piped()).stderr(Stdio::piped());
+        command.stdout(full.expect("open /dev/full"));
+        let mut child = command.spawn().expect("the cipher program runs");
+        let mut pipe = child.stdin.take().expect("piped");
+        // It stops at the first write, so that it may not read all.
+        let _ = pipe.write_all(&input);
+        drop(pipe);
+        let ended = end(child, Vec::new());
+        compare(what, ended, b"", WRITING_FAILED);
     }
 }

@@ -52,7 +52,7 @@ loop-again c =
     (c .header-lacks .ensures .0) (c .header-lacks .ensures .1)
 
 returns : tie.Need-returns Inv-loop μ-loop
-returns c = all-read (c .before .before .loop .inv) (λ e. omega (arith, ltb-false 0 (c .before .before .loop .lack) (c .if1 .left)))
+returns c = all-read (c .before .before .loop .inv) (λ e. omega (arith, ltb-false))
 
 returns-2 : tie.Need-returns-2 Inv-loop μ-loop
 returns-2 c = all-read (c .before .loop .inv) (λ e. absurd (c .loop-test .left e))
