@@ -9,6 +9,7 @@ use borrow.Author.Tests.{le-ltb}
 use lib.Dec.{ltb}
 use lib.ListN.{length, take, drop, length-append, length-take}
 use lib.Seq.{take-length, drop-length}
+use Rattle.text.specs.Text.{ascii}
 use Rattle.generator.specs.declared.State.{State}
 use Rattle.generator.proofs.Cells.{take-lt, drop-lt}
 use Rattle.masking.specs.Masking.{masked}
@@ -129,13 +130,13 @@ state-after input ps bytes e room =
 
 -- ---- refusals
 
-refusal-line : (input : List ℕ) → (started input .number ≡ accepted → ⊥) → RefusedWith input 1 49 ⊎ RefusedWith input 2 50
+refusal-line : (input : List ℕ) → (started input .number ≡ accepted → ⊥) → RefusedWith input 1 (ascii "refused 1\n") ⊎ RefusedWith input 2 (ascii "refused 2\n")
 refusal-line input refused = by (header input .first)
   where
-    by : NumberOfFirst (started input .number) (headerLines input) → RefusedWith input 1 49 ⊎ RefusedWith input 2 50
+    by : NumberOfFirst (started input .number) (headerLines input) → RefusedWith input 1 (ascii "refused 1\n") ⊎ RefusedWith input 2 (ascii "refused 2\n")
     by (inl key) = inl (key .1, ap refusalLine (key .1))
     by (inr (_, inl iv)) = inr (iv .1, ap refusalLine (iv .1))
     by (inr (_, inr (_, none))) = absurd (refused none)
 
 pub framing-laws : FramingLaws
-framing-laws = record { parts = parts; header = header; refusal-line = refusal-line; header-alone = header-alone; pieces = pieces; state-after = state-after }
+framing-laws = record { parts = parts; header = header; refusal-line = refusal-line; refused-1 = refl; refused-2 = refl; header-alone = header-alone; pieces = pieces; state-after = state-after }

@@ -4,6 +4,7 @@ use mathlib.Core.List.{List, [], _∷_, _++_}
 use Prim.Native.Nat.{ℕ, _+_, _-_, _%_}
 use lib.Dec.{ltb}
 use lib.ListN.{length, take, drop}
+use Rattle.text.specs.Text.{ascii}
 use Rattle.galois.specs.Words.{at}
 use Rattle.generator.specs.declared.State.{State}
 use Rattle.masking.specs.Masking.{masked}
@@ -37,9 +38,9 @@ lacking (k ∷ rest) = k + 32 - length rest
 unfoldable pub started : (input : List ℕ) → Answer
 started input = opened (keyIn input) (ivIn input)
 
--- the bytes of the line of a refusal: the word `refused`, a space, the number's last decimal digit, a line feed
+-- the bytes of the line of a refusal, with the last decimal digit of its number and a line feed
 abbrev pub refusalLine : (number : ℕ) → List ℕ
-refusalLine number = 114 ∷ 101 ∷ 102 ∷ 117 ∷ 115 ∷ 101 ∷ 100 ∷ 32 ∷ (48 + number % 10) ∷ 10 ∷ []
+refusalLine number = ascii "refused " ++ ((48 + number % 10) ∷ 10 ∷ [])
 
 -- "It writes the data with the keystream applied. .. At the limit it stops after 16,777,216 data bytes."
 unfoldable pub dataOut : (input : List ℕ) → List ℕ

@@ -4,6 +4,7 @@ use mathlib.Core.Logic.{_⊎_}
 use mathlib.Core.List.{List, [], _∷_, _++_}
 use Prim.Native.Nat.{ℕ, _+_, _<_, _≤_}
 use lib.ListN.{length, take}
+use Rattle.text.specs.Text.{ascii}
 use Rattle.loading.specs.Loading.{Bytes}
 use Rattle.answers.specs.Numbers.{limit, accepted, refusedKeyLength, refusedIvLength}
 use Rattle.opening.specs.Opening.{blank}
@@ -18,18 +19,21 @@ headerLines input =
     ∷ record { number = refusedIvLength; When = length input < 33 + keyLengthIn input }
     ∷ []
 
--- an input that is refused with this number, whose line is the bytes of `refused `, this digit, and a line feed
-abbrev pub RefusedWith : (input : List ℕ) → (number digit : ℕ) → Type 0
-RefusedWith input number digit =
-    (started input .number ≡ number) × (refusalLine (started input .number) ≡ 114 ∷ 101 ∷ 102 ∷ 117 ∷ 115 ∷ 101 ∷ 100 ∷ 32 ∷ digit ∷ 10 ∷ [])
+-- an input that is refused with this number, and the line of that refusal
+abbrev pub RefusedWith : (input : List ℕ) → (number : ℕ) (line : List ℕ) → Type 0
+RefusedWith input number line = (started input .number ≡ number) × (refusalLine (started input .number) ≡ line)
 
 pub record FramingLaws : Type 0 where
   -- "one byte giving the key length, the key, 32 IV bytes, data to the end"
   pub parts : (input : List ℕ) → started input .number ≡ accepted → length (keyIn input) ∷ (keyIn input ++ (ivIn input ++ dataIn input)) ≡ input
   -- what is refused before the data, with which number; empty input is too short for the key
   pub header : (input : List ℕ) → RefusesExactly (started input) (headerLines input) (1 ∷ 2 ∷ []) blank
-  -- "a refusal before data writes `refused 1` or `refused 2` with a line feed": 49 and 50 are the digits
-  pub refusal-line : (input : List ℕ) → (started input .number ≡ accepted → ⊥) → RefusedWith input 1 49 ⊎ RefusedWith input 2 50
+  -- "a refusal before data writes `refused 1` or `refused 2` with a line feed"
+  pub refusal-line :
+      (input : List ℕ) → (started input .number ≡ accepted → ⊥) → RefusedWith input 1 (ascii "refused 1\n") ⊎ RefusedWith input 2 (ascii "refused 2\n")
+  -- the same lines in numerals
+  pub refused-1 : refusalLine 1 ≡ 114 ∷ 101 ∷ 102 ∷ 117 ∷ 115 ∷ 101 ∷ 100 ∷ 32 ∷ 49 ∷ 10 ∷ []
+  pub refused-2 : refusalLine 2 ≡ 114 ∷ 101 ∷ 102 ∷ 117 ∷ 115 ∷ 101 ∷ 100 ∷ 32 ∷ 50 ∷ 10 ∷ []
   -- the header is enough: its first byte and as many after it as that one says, or the whole input where that is shorter
   pub header-alone : (input : List ℕ) → started (take (33 + keyLengthIn input) input) ≡ started input
   -- however the data up to the limit are divided into pieces, what the calls leave in them is the data with the keystream applied

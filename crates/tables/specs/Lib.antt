@@ -1,2 +1,3 @@
--- The definitions that the contracts of the tables program cite.
-pub mod Hex
+-- The lines of the tables program, and their law.
+pub mod Lines
+pub mod LinesLaws

@@ -1,8 +1,8 @@
--- `tables::hex::digit_at` meets its contract, on either side of 10.
+-- `text::digit_at` meets its contract, on either side of 10.
 use borrow.Author.Needs.{needs}
 use borrow.Author.Tests.{lt-ltb, le-ltb}
-use Rattle.tables.proofs.hex.digit_at.Statement.{statement}
-use Rattle.tables.proofs.hex.digit_at.Tie as tie
+use Rattle.text.proofs.digit_at.Statement.{statement}
+use Rattle.text.proofs.digit_at.Tie as tie
 
 returns : tie.Need-returns
 returns c = simp (lt-ltb _ _ (c .if1 .taken))

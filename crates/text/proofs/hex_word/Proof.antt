@@ -1,8 +1,8 @@
--- `tables::hex::hex_word` meets its contract, digit by digit.
+-- `text::hex_word` meets its contract, digit by digit.
 use borrow.Author.Needs.{needs}
-use Rattle.tables.specs.Hex.{hexWord}
-use Rattle.tables.proofs.hex.hex_word.Statement.{statement}
-use Rattle.tables.proofs.hex.hex_word.Tie as tie
+use Rattle.text.specs.Text.{hexWord}
+use Rattle.text.proofs.hex_word.Statement.{statement}
+use Rattle.text.proofs.hex_word.Tie as tie
 
 returns : tie.Need-returns
 unfolding hexWord

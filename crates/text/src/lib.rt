@@ -1,7 +1,7 @@
-// A word as hexadecimal text, in capitals.
+// A word in hexadecimal digits, in capitals.
 ghost use mathlib.Core.Path.{_≡_};
 ghost use Prim.Native.Nat.{_*_, _/_, _%_, _^_, _<_};
-ghost use Rattle.tables.specs.Hex.{hexDigit, hexWord};
+ghost use Rattle.text.specs.Text.{hexDigit, hexWord};
 
 // The ASCII code of digit i of n; digit 0 is the least significant.
 fn digit_at(n: u64, i: u64) -> u8

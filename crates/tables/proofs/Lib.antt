@@ -1,0 +1,3 @@
+-- The lines of the tables program: their law, and their parts.
+pub mod LinesLaws
+pub mod Joined
