@@ -1,5 +1,7 @@
 // Runs the check of states, and prints a line for each: at five positions, with a bit of the state changed, and with
 // another IV. The file `stdout` beside it is what another implementation printed for the same list.
+ghost use mathlib.Core.Path.{_≡_};
+ghost use Rattle.checking.specs.Checking.{checkedTarget};
 use generator::State;
 use printing::end_with;
 use printing::named;
@@ -8,7 +10,10 @@ use strumok::check;
 use trials::opened_at;
 use trials::tables;
 
-fn check_into(name: &[u8], s: State, iv: &[u8], key: &mut [u8]) {
+// A check into this key target.
+fn check_into(name: &[u8], s: State, iv: &[u8], key: &mut [u8])
+    ensures { λ _. ⌜ now (key .exit) ≡ checkedTarget s (now (iv .entry)) (now (key .entry)) ⌝ }
+{
     let a = check(s, iv, key);
     named(s.size, name);
     number(a.number);
@@ -26,11 +31,10 @@ fn check_state(name: &[u8], s: State, iv: &[u8]) {
     }
 }
 
-// The check of the state of key and IV at a position; hands over the state.
-fn check_at(name: &[u8], key: &[u8], iv: &[u8], position: i64) -> State {
+// The check of the state of key and IV at a position.
+fn check_at(name: &[u8], key: &[u8], iv: &[u8], position: i64) {
     let s = opened_at(key, iv, position);
     check_state(name, s, iv);
-    s
 }
 
 // The checks of a key's size.
@@ -38,8 +42,9 @@ fn checks(key: &[u8], iv: &[u8]) {
     check_at(b"check at 0: ", key, iv, 0);
     check_at(b"check at 1: ", key, iv, 1);
     check_at(b"check at 7: ", key, iv, 7);
-    let s = check_at(b"check at 8: ", key, iv, 8);
+    check_at(b"check at 8: ", key, iv, 8);
     check_at(b"check at 16777216: ", key, iv, 16777216);
+    let s = opened_at(key, iv, 8);
     let mut changed = s;
     changed.r1 = s.r1 ^ 1;
     check_state(b"check at 8 with bit 0 of r1 changed: ", changed, iv);

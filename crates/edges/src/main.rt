@@ -1,5 +1,8 @@
 // Runs document 01's edges, and prints a line for each: the lengths of a key, and for both key sizes portions, moves and
 // a window. The file `stdout` beside it is what another implementation printed for the same list.
+ghost use mathlib.Core.Path.{_≡_};
+ghost use Rattle.galois.specs.Words.{tabulate};
+ghost use Rattle.applying.specs.Applying.{applied};
 use generator::State;
 use printing::end_with;
 use printing::named;
@@ -46,7 +49,9 @@ fn answer(bits: u64, name: &[u8], a: Answer) {
 }
 
 // A portion into a target of sixteen bytes FF; hands over the state after it.
-fn apply_edge(name: &[u8], s: State, source: &[u8]) -> State {
+fn apply_edge(name: &[u8], s: State, source: &[u8]) -> State
+    ensures { λ r. ⌜ r ≡ applied s (now (source .entry)) (tabulate 16 (λ _. 255)) .state ⌝ }
+{
     let mut target = [255u8; 16];
     let a = apply(s, source, &mut target);
     answer(s.size, name, a);

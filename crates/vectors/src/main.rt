@@ -2,7 +2,6 @@
 // same list.
 mod tables;
 
-ghost use Prim.Native.Nat.{_<_};
 use printing::number;
 use printing::text;
 use printing::words;
@@ -24,15 +23,14 @@ fn vector(place: u64, key: &[u8], iv: &[u8]) {
 }
 
 // The four of a size: two keys with the one IV, and with the other.
-fn four_vectors(first: u64, key_80: &[u8], key_aa: &[u8])
-    requires { ⌜ first < 10 ⌝ }
-{
+fn four_vectors(first: u8, key_80: &[u8], key_aa: &[u8]) {
+    let place = first as u64;
     let zero = tables::IV_ZERO;
     let other = tables::IV_4321;
-    vector(first, key_80, &zero);
-    vector(first + 1, key_aa, &zero);
-    vector(first + 2, key_80, &other);
-    vector(first + 3, key_aa, &other);
+    vector(place, key_80, &zero);
+    vector(place + 1, key_aa, &zero);
+    vector(place + 2, key_80, &other);
+    vector(place + 3, key_aa, &other);
 }
 
 fn main() {
