@@ -1,5 +1,5 @@
 -- Counts of bytes at the front of a buffer; a piece, and what it does to the position; piece after piece, with the measure of that loop.
-use mathlib.Core.Path.{_≡_, refl, sym, ap, subst, _∙_}
+use mathlib.Core.Path.{_≡_, refl, sym, ap, _∙_}
 use mathlib.Core.Bool.{Bool, true, false, cond}
 use mathlib.Core.List.{List, [], _∷_, _++_}
 use Prim.Native.Nat.{ℕ, _+_, _-_, _<_, _≤_, min}
@@ -11,10 +11,7 @@ use lib.Seq.{length-take-le}
 use Rattle.generator.specs.declared.State.{State}
 use Rattle.answers.specs.declared.Answer.{Answer}
 use Rattle.answers.specs.Numbers.{limit, accepted}
-use Rattle.answers.specs.Tests.{windowTest}
-use Rattle.positions.specs.Positions.{movedTo}
 use Rattle.applying.specs.Applying.{windowed, windowedBuffer}
-use Rattle.applying.proofs.Portions.{accepted-advances}
 use Rattle.positions.proofs.PositionLaws.{position-laws}
 use Rattle.framing.specs.Framing.{keyLengthIn, started, afterPieces, joined}
 use Rattle.cipher_io.specs.Passing.{goingOn, HeaderRead, PiecePassed, DataPassed, Ran}

@@ -1,6 +1,6 @@
 // The three lines of the tables program, as bytes.
 ghost use mathlib.Core.Path.{_≡_};
-ghost use mathlib.Core.List.{[], _∷_, _++_};
+ghost use mathlib.Core.List.{_∷_, _++_};
 ghost use Rattle.text.specs.Text.{ascii, hexWord};
 ghost use Rattle.tables.specs.Lines.{lineEnd, threeLines};
 use text::hex_word;

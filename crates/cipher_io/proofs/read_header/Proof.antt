@@ -1,7 +1,7 @@
 -- `cipher_io::read_header` meets its contract, and ends: each read but the last brings bytes, and no header is longer than the longest.
-use mathlib.Core.Path.{_≡_, refl}
+use mathlib.Core.Path.{refl}
+use Prim.Native.Nat.{_+_, _≤_}
 use native.Mathlib.Omega.{arith}
-use lib.ListN.{length}
 use borrow.Author.Needs.{needs}
 use borrow.Author.Tests.{ltb-false}
 use Rattle.cipher_io.proofs.Headers.{Begun, left, still-long, fits, read-on, all-read, read-less}
@@ -18,20 +18,22 @@ abbrev μ-loop : tie.MeasureT-loop
 loop-holds : tie.Need-loop-holds Inv-loop μ-loop
 loop-holds c = record { long = refl; room = omega arith; lacks = refl; none-past = omega arith }
 
-add-count : tie.Need-add-count Inv-loop μ-loop
-add-count c =
+-- with the bytes that a read brought the header still fits the array
+small : (c : tie.After-struct-known Inv-loop μ-loop) → c .before .before .before .before .before .before .loop .count + c .before .before .read-once .result .count ≤ 288
+small c =
     let loop = c .before .before .before .before .before .before .loop in
     let read = c .before .before .read-once in
-    let small = fits (loop .bytes) (read .last .0) (loop .count) (loop .lack) (read .result .count) (loop .inv) (read .kept .0) (read .ensures .within) in
-    omega (arith, small)
+    fits (loop .bytes) (read .last .0) (loop .count) (loop .lack) (read .result .count) (loop .inv) (read .kept .0) (read .ensures .within)
+
+add-count : tie.Need-add-count Inv-loop μ-loop
+add-count c = omega (arith, small c)
 
 array-share-prefix-bytes : tie.Need-array-share-prefix-bytes Inv-loop μ-loop
 array-share-prefix-bytes c =
     let loop = c .before .before .before .before .before .before .loop in
     let read = c .before .before .read-once in
-    let small = fits (loop .bytes) (read .last .0) (loop .count) (loop .lack) (read .result .count) (loop .inv) (read .kept .0) (read .ensures .within) in
     let long = still-long (loop .bytes) (read .last .0) (loop .count) (loop .lack) (read .result .count) (loop .inv) (read .kept .0) (read .ensures .within) in
-    omega (arith, small, long)
+    omega (arith, small c, long)
 
 slice-aggregate-header-lacks : tie.Need-slice-aggregate-header-lacks Inv-loop μ-loop
 slice-aggregate-header-lacks c = front-length _ _ (array-share-prefix-bytes (c .before))
@@ -39,10 +41,7 @@ slice-aggregate-header-lacks c = front-length _ _ (array-share-prefix-bytes (c .
 loop-less : tie.Need-loop-less Inv-loop μ-loop
 loop-less c =
     let test = c .before .before .before .before .before .before .before in
-    let loop = test .before .loop in
-    let read = c .before .before .before .before .read-once in
-    let small = fits (loop .bytes) (read .last .0) (loop .count) (loop .lack) (read .result .count) (loop .inv) (read .kept .0) (read .ensures .within) in
-    read-less (loop .count) (test .loop-test .taken) small (read .ensures)
+    read-less (test .before .loop .count) (test .loop-test .taken) (small (c .before .before)) (c .before .before .before .before .read-once .ensures)
 
 loop-again : tie.Need-loop-again Inv-loop μ-loop
 loop-again c =

@@ -1,5 +1,4 @@
 -- `framing::header_lacks` meets its contract: no header yet, one that lacks bytes, and one that lacks none.
-use mathlib.Core.Path.{_∙_}
 use native.Mathlib.Omega.{arith}
 use borrow.Author.Needs.{needs}
 use Rattle.framing.proofs.Header.{lacks-first, lacks-rest}
