@@ -250,12 +250,17 @@ fn output_closed_early() {
 
 #[test]
 fn reads_that_fail() {
-    // A directory is opened, and cannot be read: no byte of a header comes.
-    let directory = File::open("/").expect("open a directory");
-    let mut child = start(&mut program(), Stdio::from(directory));
-    let written = whole(child.stdout.take().expect("piped"));
-    let ended = end(child, written);
-    compare("a directory", ended, b"refused 1\n", READING_FAILED);
+    // A directory is opened, and cannot be read; a closed input neither: no byte of a header comes.
+    let mut closed = Command::new("sh");
+    closed.args(["-c", "exec \"$0\" <&-"]);
+    closed.arg(program().get_program());
+    for (what, mut command) in [("a directory", program()), ("closed", closed)] {
+        let directory = File::open("/").expect("open a directory");
+        let mut child = start(&mut command, Stdio::from(directory));
+        let written = whole(child.stdout.take().expect("piped"));
+        let ended = end(child, written);
+        compare(what, ended, b"refused 1\n", READING_FAILED);
+    }
 }
 
 #[test]
