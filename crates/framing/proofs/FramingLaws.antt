@@ -111,21 +111,20 @@ unfolding started dataOut
 pieces input ps bytes e all =
     let s = opened (keyIn input) (ivIn input) .state in
     let accepts = accepts-both input bytes e in
-    let from-0 = opening-laws .opened-position (keyIn input) (ivIn input) accepts in
+    let from-0 = opening-laws .opened-position (keyIn input) (ivIn input) e in
     let room = within limit (s .position) (joined ps) (dataIn input) from-0 all in
     pieces-joined (keyIn input) (ivIn input) s ps
-    (opening-laws .opened-leads (keyIn input) (ivIn input) accepts) (opening-laws .opened-well-formed (keyIn input) (ivIn input) accepts) room
+    (opening-laws .opened-leads (keyIn input) (ivIn input) accepts) (opening-laws .opened-well-formed (keyIn input) (ivIn input) e) room
     ∙ ap₂ (λ (p : ℕ) (xs : List ℕ). masked (keystreamByte (keyIn input) (ivIn input)) p xs) from-0 all
 
 state-after :
-    (input : List ℕ) (pieces : List (List ℕ)) → Bytes input → started input .number ≡ accepted → length (joined pieces) ≤ limit
+    (input : List ℕ) (pieces : List (List ℕ)) → started input .number ≡ accepted → length (joined pieces) ≤ limit
     → afterPieces (started input .state) pieces ≡ movedTo (started input .state) (length (joined pieces))
 unfolding started
-state-after input ps bytes e room =
+state-after input ps e room =
     let s = opened (keyIn input) (ivIn input) .state in
-    let accepts = accepts-both input bytes e in
-    let from-0 = opening-laws .opened-position (keyIn input) (ivIn input) accepts in
-    state-joined s ps (opening-laws .opened-well-formed (keyIn input) (ivIn input) accepts) (omega (arith, from-0, room))
+    let from-0 = opening-laws .opened-position (keyIn input) (ivIn input) e in
+    state-joined s ps (opening-laws .opened-well-formed (keyIn input) (ivIn input) e) (omega (arith, from-0, room))
     ∙ ap (movedTo s) (omega (arith, from-0))
 
 -- ---- refusals

@@ -42,5 +42,5 @@ pub record FramingLaws : Type 0 where
       → joined (piecesOut (started input .state) pieces) ≡ dataOut input
   -- and the calls leave the state at the position after these data
   pub state-after :
-      (input : List ℕ) (pieces : List (List ℕ)) → Bytes input → started input .number ≡ accepted → length (joined pieces) ≤ limit
+      (input : List ℕ) (pieces : List (List ℕ)) → started input .number ≡ accepted → length (joined pieces) ≤ limit
       → afterPieces (started input .state) pieces ≡ movedTo (started input .state) (length (joined pieces))

@@ -23,12 +23,9 @@ use Rattle.loading.proofs.Strings.{reverse-lt, wordOf-lt, stringOf-leng
 use Rattle.loading.proofs.Rows.{holdsKey, holdsKeyAlone, holdsIv, someRow, same-key, same-iv, loadedCell-lt}
 use Rattle.loading.proofs.Recovered.{recovers-word}
 
-pub size-of : {key iv : List ℕ} → KeyAndIv key iv → (sizeMark key ≡ 256) ⊎ (sizeMark key ≡ 512)
-size-of {key} o = by (o .key-length)
-  where
-    by : (length key ≡ 32) ⊎ (length key ≡ 64) → (sizeMark key ≡ 256) ⊎ (sizeMark key ≡ 512)
-    by (inl l) = inl (omega arith)
-    by (inr l) = inr (omega arith)
+pub size-of : (key : List ℕ) → (length key ≡ 32) ⊎ (length key ≡ 64) → (sizeMark key ≡ 256) ⊎ (sizeMark key ≡ 512)
+size-of key (inl l) = inl (omega arith)
+size-of key (inr l) = inr (omega arith)
 
 -- ---- sixteen words
 
@@ -84,7 +81,7 @@ unfolding recoveredKey load loadedCells
 recovers key iv o =
     let size = sizeMark key in
     let words = recovers-word (wordOf key) (wordOf iv) (rowsOf size) in
-    stringOf-ext (length key) _ (wordOf key) (λ i h. words i (below (size / 64) (λ i. someRow (holdsKey i) (rowsOf size)) (keys-found size (size-of o)) i (within i h (size-of o))))
+    stringOf-ext (length key) _ (wordOf key) (λ i h. words i (below (size / 64) (λ i. someRow (holdsKey i) (rowsOf size)) (keys-found size (size-of key (o .key-length))) i (within i h (size-of key (o .key-length)))))
     ∙ stringOf-wordOf key (o .key-bytes)
   where
     within : (i : ℕ) → 8 * i < length key → (sizeMark key ≡ 256) ⊎ (sizeMark key ≡ 512) → i < sizeMark key / 64

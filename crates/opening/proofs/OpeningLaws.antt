@@ -5,29 +5,30 @@ use Prim.Native.Nat.{ℕ, _/_}
 use Rattle.generator.specs.declared.State.{State}
 use Rattle.loading.specs.Loading.{sizeMark}
 use Rattle.loading.proofs.LoadingLaws.{loading-laws, size-of}
+use Rattle.answers.specs.Numbers.{accepted}
 use Rattle.answers.specs.Tests.{WellFormed}
 use Rattle.answers.proofs.Tests.{one-of}
 use Rattle.answers.proofs.Lines.{refuses-exactly, key-length-decides, iv-length-decides}
 use Rattle.opening.specs.Opening.{blank, openedState, openingTests, openingLines, opened, OpeningAccepts, Leads}
 use Rattle.opening.specs.OpeningLaws.{OpeningRefusals, OpeningsDiffer, OpeningLaws}
-use Rattle.opening.proofs.Opened.{key-and-iv, key-and-iv-open}
+use Rattle.opening.proofs.Opened.{key-length, key-and-iv, key-and-iv-open}
 
 refuses : OpeningRefusals
 refuses key iv =
     refuses-exactly (openingTests key iv) (openingLines key iv) (1 ∷ 2 ∷ []) (openedState key iv) blank tt tt refl (key-length-decides key, λ t1. (iv-length-decides iv, λ t2. tt))
 
-module _ (key iv : List ℕ) (o : OpeningAccepts key iv) where
+module _ (key iv : List ℕ) (e : opened key iv .number ≡ accepted) where
   opened-state : opened key iv .state ≡ openedState key iv
-  opened-state = rw (o .opens)
-
-  opened-leads : Leads key iv (opened key iv .state)
-  opened-leads = subst (Leads key iv) (sym opened-state) (record { opening = o; size = refl; registers = refl })
+  opened-state = rw e
 
   opened-well-formed : WellFormed (opened key iv .state)
-  opened-well-formed = rw (o .opens, one-of (sizeMark key) 256 512 (size-of (key-and-iv o))) refl
+  opened-well-formed = rw (e, one-of (sizeMark key) 256 512 (size-of key (key-length key iv e))) refl
 
   opened-position : opened key iv .state .position ≡ 0
-  opened-position = rw (o .opens)
+  opened-position = rw e
+
+opened-leads : (key iv : List ℕ) → OpeningAccepts key iv → Leads key iv (opened key iv .state)
+opened-leads key iv o = subst (Leads key iv) (sym (opened-state key iv (o .opens))) (record { opening = o; size = refl; registers = refl })
 
 one-key-leads : (key key′ iv : List ℕ) (s : State) → Leads key iv s → Leads key′ iv s → key ≡ key′
 one-key-leads key key′ iv s l l′ =

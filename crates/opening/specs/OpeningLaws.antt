@@ -4,6 +4,7 @@ use mathlib.Core.List.{List, [], _∷_}
 use Prim.Native.Nat.{ℕ}
 use Rattle.generator.specs.declared.State.{State}
 use Rattle.loading.specs.Loading.{KeyAndIv, sizeMark, registersAt}
+use Rattle.answers.specs.Numbers.{accepted}
 use Rattle.answers.specs.Tests.{stateTests, returned, WellFormed}
 use Rattle.answers.specs.Lines.{RefusesExactly}
 use Rattle.opening.specs.Opening.{blank, openingLines, opened, OpeningAccepts, Leads}
@@ -26,8 +27,8 @@ pub record OpeningLaws : Type 0 where
   pub opening-accepts-only : (key iv : List ℕ) → OpeningAccepts key iv → KeyAndIv key iv
   -- a key leads to the state that it opens, which is well-formed and stands at position 0
   pub opened-leads : (key iv : List ℕ) → OpeningAccepts key iv → Leads key iv (opened key iv .state)
-  pub opened-well-formed : (key iv : List ℕ) → OpeningAccepts key iv → WellFormed (opened key iv .state)
-  pub opened-position : (key iv : List ℕ) → OpeningAccepts key iv → opened key iv .state .position ≡ 0
+  pub opened-well-formed : (key iv : List ℕ) → opened key iv .number ≡ accepted → WellFormed (opened key iv .state)
+  pub opened-position : (key iv : List ℕ) → opened key iv .number ≡ accepted → opened key iv .state .position ≡ 0
   -- of keys that lead to a state with an IV there is only one
   pub one-key-leads : (key key′ iv : List ℕ) (s : State) → Leads key iv s → Leads key′ iv s → key ≡ key′
   pub openings-differ : OpeningsDiffer

@@ -77,7 +77,7 @@ module _ {key iv : List ℕ} where
 module _ (key iv : List ℕ) (calls : List Call) (s : State) (r : Reached key iv calls s) where
   chain : LedTo key iv (after (opened key iv .state) calls) (pos (opened key iv .state .position) +ℤ total calls)
   chain =
-      after-leads (opened key iv .state) calls (opening-laws .opened-leads key iv (r .opening)) (opening-laws .opened-well-formed key iv (r .opening)) (r .accepts)
+      after-leads (opened key iv .state) calls (opening-laws .opened-leads key iv (r .opening)) (opening-laws .opened-well-formed key iv (r .opening .opens)) (r .accepts)
 
   reached-leads : Leads key iv s
   reached-leads = subst (Leads key iv) (sym (r .state)) (chain .key-leads)
@@ -88,7 +88,7 @@ module _ (key iv : List ℕ) (calls : List Call) (s : State) (r : Reached key iv
   reached-position : pos (s .position) ≡ total calls
   reached-position =
       ap (λ (x : State). pos (x .position)) (r .state) ∙ chain .position
-      ∙ ap (λ (p : ℕ). pos p +ℤ total calls) (opening-laws .opened-position key iv (r .opening)) ∙ +ℤ-idl (total calls)
+      ∙ ap (λ (p : ℕ). pos p +ℤ total calls) (opening-laws .opened-position key iv (r .opening .opens)) ∙ +ℤ-idl (total calls)
 
 -- ---- a portion restored
 
