@@ -9,7 +9,7 @@ use lib.Signed.{_<ℤ_}
 use Rattle.generator.specs.declared.State.{State}
 use Rattle.answers.specs.declared.Answer.{Answer}
 use Rattle.answers.specs.Tests.{WellFormed}
-use Rattle.answers.specs.Numbers.{limit, accepted, refusedKeyLength, refusedIvLength, refusedSizeMark, refusedPositionAbove, refusedTargetShorter, refusedWindowPastEnd, refusedNewPositionAbove, refusedNewPositionBelow, refusedKeyTargetLength}
+use Rattle.answers.specs.Numbers.{accepted, refusedKeyLength, refusedIvLength, refusedSizeMark, refusedPositionAbove, refusedTargetShorter, refusedWindowPastEnd, refusedNewPositionAbove, refusedNewPositionBelow, refusedKeyTargetLength}
 
 -- a line of the table: its number, and when it applies
 pub record Line : Type 1 where
@@ -32,7 +32,7 @@ sizeMarkLine s = record { number = refusedSizeMark; When = (s .size ≡ 256 → 
 
 -- "position above 16,777,216"
 abbrev pub positionLine : State → Line
-positionLine s = record { number = refusedPositionAbove; When = limit < s .position }
+positionLine s = record { number = refusedPositionAbove; When = 16777216 < s .position }
 
 -- "target shorter than source": a source of n bytes and a target of len
 abbrev pub targetLine : (n len : ℕ) → Line
@@ -44,11 +44,11 @@ windowLine len start count = record { number = refusedWindowPastEnd; When = len 
 
 -- "new position would be above 16,777,216"
 abbrev pub newPositionAboveLine : (to : ℤ) → Line
-newPositionAboveLine to = record { number = refusedNewPositionAbove; When = pos limit <ℤ to }
+newPositionAboveLine to = record { number = refusedNewPositionAbove; When = pos 16777216 <ℤ to }
 
 -- the same where a state only goes on, by n bytes: a sum of natural numbers
 abbrev pub newPositionOnLine : State → (n : ℕ) → Line
-newPositionOnLine s n = record { number = refusedNewPositionAbove; When = limit < s .position + n }
+newPositionOnLine s n = record { number = refusedNewPositionAbove; When = 16777216 < s .position + n }
 
 -- "new position would be below 0"
 abbrev pub newPositionBelowLine : (to : ℤ) → Line

@@ -10,7 +10,7 @@ use lib.Dec.{eqb}
 use lib.ListN.{length, take, drop, length-append, length-take, length-drop, take-append-drop}
 use lib.Seq.{drop-drop, drop-length}
 use Rattle.generator.specs.declared.State.{State}
-use Rattle.masking.specs.Masking.{masked}
+use Rattle.masking.specs.Masking.{byteAt, masked}
 use Rattle.masking.proofs.Masked.{masked-length, masked-append, masked-drop, masked-masked}
 use Rattle.answers.specs.declared.Answer.{Answer}
 use Rattle.answers.specs.Numbers.{accepted}
@@ -20,7 +20,7 @@ use Rattle.answers.proofs.Tests.{position-le}
 use Rattle.answers.proofs.Lines.{Decides, DecideAll, refuses-exactly, writes-nothing, state-decides, target-decides, window-decides, new-position-on-decides}
 use Rattle.positions.specs.Positions.{movedTo}
 use Rattle.positions.proofs.PositionLaws.{position-laws}
-use Rattle.applying.specs.Applying.{keystreamByteOf, withKeystream, advancingTests, advancingLines, applyingTests, applyingLines, applied, appliedTarget, windowTests, windowLines, windowed, windowedBuffer}
+use Rattle.applying.specs.Applying.{keystreamByte, keystreamByteOf, withKeystream, advancingTests, advancingLines, applyingTests, applyingLines, applied, appliedTarget, windowTests, windowLines, windowed, windowedBuffer}
 use Rattle.applying.specs.ApplyingLaws.{TwoPortions, Restored, ApplyingLaws}
 use Rattle.applying.proofs.Portions.{accepts}
 use Rattle.applying.proofs.AcceptedPortions.{PortionFits, keystream-of-key, with-keystream-on, accepted-portion, portion-answer, portion-bytes, portion-long, portion-front, portion-back, later-portion}
@@ -169,10 +169,12 @@ no-bytes s target ok =
     )
 
 pub applying-laws : ApplyingLaws
+unfolding byteAt keystreamByte
 applying-laws =
     record {
       applying-refuses = λ s source target. portion-refuses s _ _ target (length source) (length target);
       window-refuses = λ s buffer start count. window-refuses s _ _ buffer (length buffer) start count;
+      bytes-of-words = λ key iv. refl;
       keystream-of-key = keystream-of-key;
       portion-ciphers = portion-ciphers;
       window-ciphers = window-ciphers;

@@ -5,7 +5,11 @@ use mathlib.Core.List.{List, [], _∷_, _++_}
 use Prim.Native.Nat.{ℕ, _+_, _≤_}
 use lib.IntN.{pos}
 use lib.ListN.{length, take, drop}
+use Rattle.galois.specs.Words.{tabulate}
 use Rattle.generator.specs.declared.State.{State}
+use Rattle.generator.specs.Registers.{keystreamWord}
+use Rattle.masking.specs.Masking.{byteAt}
+use Rattle.loading.specs.Loading.{registersAt}
 use Rattle.answers.specs.Numbers.{accepted}
 use Rattle.answers.specs.Tests.{newPosition, WellFormed}
 use Rattle.answers.specs.Lines.{RefusesExactly, WritesNothing}
@@ -28,6 +32,10 @@ WindowRefusals =
     → RefusesExactly (windowed s buffer start count) (windowLines s (length buffer) start count) (3 ∷ 4 ∷ 6 ∷ 7 ∷ []) s
     × WritesNothing (windowed s buffer start count) buffer (windowedBuffer s buffer start count)
 
+-- the eight bytes of the Z of S_n
+abbrev pub wordBytesOf : (key iv : List ℕ) → (n : ℕ) → List ℕ
+wordBytesOf key iv n = tabulate 8 (byteAt (keystreamWord (registersAt key iv n)))
+
 -- a portion xs, then a portion ys over what follows it in the target, against both in one portion
 pub record TwoPortions (s : State) (xs ys target : List ℕ) : Type 0 where
   pub first : applied s xs target .number ≡ accepted
@@ -46,6 +54,8 @@ pub record Restored (s : State) (xs target : List ℕ) (k : ℕ) (other : List �
 pub record ApplyingLaws : Type 0 where
   pub applying-refuses : ApplyingRefusals
   pub window-refuses : WindowRefusals
+  -- "Keystream byte p is byte (p mod 8) of that word's Z", with floor(p/8) in numerals: the words of S_0, S_1 and S_2 have the first 24 bytes
+  pub bytes-of-words : (key iv : List ℕ) → tabulate 24 (keystreamByte key iv) ≡ wordBytesOf key iv 0 ++ (wordBytesOf key iv 1 ++ wordBytesOf key iv 2)
   -- where a key leads to a state, the state's keystream is that of the key and its IV, at every position
   pub keystream-of-key : (key iv : List ℕ) (s : State) → Leads key iv s → (p : ℕ) → keystreamByteOf s p ≡ keystreamByte key iv p
   -- so an accepted portion or window writes that keystream, from the state's position on, and leads on

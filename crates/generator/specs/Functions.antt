@@ -1,5 +1,5 @@
 -- What the functions over lent tables hand over: the steps of specs/Registers.antt with words looked up in those tables.
--- Where the tables are those of T and α, these are the steps of the cipher: laws `next-by-tables` and `previous-by-tables` of specs/GeneratorLaws.antt.
+-- Where the tables are those of T and α, these are the steps of the cipher: laws `next-in-tables` and `previous-by-tables` of specs/GeneratorLaws.antt.
 use mathlib.Core.List.{List, []}
 use Prim.Native.Nat.{ℕ}
 use lib.ListN.{getD}

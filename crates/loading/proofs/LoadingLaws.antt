@@ -160,11 +160,11 @@ loaded-alike key iv key′ iv′ o o′ n e =
     (generator-laws .walks-one-to-one Ordinary n .0 (next Ordinary ia) (next Ordinary ib) (after-one ia (after-initial a wa)) (after-one ib (after-initial b wb)) e))
 
 pub loading-laws : LoadingLaws
-unfolding wordOf
+unfolding wordOf loadedCells load
 loading-laws =
     record {
-      highest-first-256 = refl;
-      highest-first-512 = refl;
+      loads-256 = refl;
+      loads-512 = refl;
       loads-words = loads-words;
       recovers = recovers;
       one-to-one-in-key = one-to-one-in-key;

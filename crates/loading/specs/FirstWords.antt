@@ -1,4 +1,4 @@
--- The first keystream word of a published vector of DSTU 8845:2019 for each key size, of the definitions: what the worked table cannot tell,
+-- The first two keystream words of a published vector of DSTU 8845:2019 for each key size, of the definitions: what the worked table cannot tell,
 -- such as the number of steps of initialisation or the cells of Z, this does. The vectors as a whole are run by a program (crate `vectors`).
 -- proofs/FirstWords.antt has `first-words : FirstWords`.
 use mathlib.Core.Path.{_≡_}
@@ -16,6 +16,10 @@ key80 n = 0x80 ∷ zeros n
 abbrev pub iv4321 : List ℕ
 iv4321 = wordBytes 4 ++ wordBytes 3 ++ wordBytes 2 ++ wordBytes 1
 
+-- the keystream words of S_0 and S_1
+abbrev pub firstWords : (key iv : List ℕ) → List ℕ
+firstWords key iv = keystreamWord (registersAt key iv 0) ∷ keystreamWord (registersAt key iv 1) ∷ []
+
 pub record FirstWords : Type 0 where
-  pub first-word-256 : keystreamWord (registersAt (key80 31) iv4321 0) ≡ 0xFE44A2508B5A2ACD
-  pub first-word-512 : keystreamWord (registersAt (key80 63) iv4321 0) ≡ 0xCCA12EAE8133AAAA
+  pub first-words-256 : firstWords (key80 31) iv4321 ≡ 0xFE44A2508B5A2ACD ∷ 0xAF355B4ED21D2742 ∷ []
+  pub first-words-512 : firstWords (key80 63) iv4321 ≡ 0xCCA12EAE8133AAAA ∷ 0x528D85507CE8501D ∷ []

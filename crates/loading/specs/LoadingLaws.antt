@@ -1,13 +1,13 @@
 -- What is proved of the loading: proofs/LoadingLaws.antt has `loading-laws : LoadingLaws`.
 use mathlib.Core.Path.{_≡_}
-use mathlib.Core.List.{List, [], _∷_, map}
-use Prim.Native.Nat.{ℕ}
+use mathlib.Core.List.{List, [], _∷_, reverse}
+use Prim.Native.Nat.{ℕ, _*_}
 use lib.ListN.{length}
 use Rattle.galois.specs.Words.{tabulate}
 use Rattle.generator.specs.declared.Kind.the-variants.{Ordinary}
 use Rattle.generator.specs.Registers.{EighteenWords, next, iterate}
 use Rattle.generator.specs.GeneratorLaws.{UndoneBy}
-use Rattle.loading.specs.Loading.{Bytes, KeyAndIv, wordOf, sizeMark, load, initialised, registersAt}
+use Rattle.loading.specs.Loading.{Bytes, KeyAndIv, sizeMark, load, initialised, registersAt}
 use Rattle.loading.specs.Recovery.{loadedFrom, recoveredKey}
 
 -- of keys with this size mark, the loading is one-to-one in key and IV together
@@ -16,13 +16,19 @@ OneToOneInBoth size =
     (key iv key′ iv′ : List ℕ) → KeyAndIv key iv → KeyAndIv key′ iv′ → sizeMark key ≡ size → sizeMark key′ ≡ size → load key iv ≡ load key′ iv′ → (key ≡ key′) × (iv ≡ iv′)
 
 pub record LoadingLaws : Type 0 where
-  -- "Key bytes hold the highest word first (K3 or K7), each word most significant byte first": of the bytes 00 01 .. 1F, and of 00 01 .. 3F
-  pub highest-first-256 :
-      map (wordOf (tabulate 32 (λ i. i))) (3 ∷ 2 ∷ 1 ∷ 0 ∷ []) ≡ 0x0001020304050607 ∷ 0x08090A0B0C0D0E0F ∷ 0x1011121314151617 ∷ 0x18191A1B1C1D1E1F ∷ []
-  pub highest-first-512 :
-      map (wordOf (tabulate 64 (λ i. i))) (7 ∷ 6 ∷ 5 ∷ 4 ∷ 3 ∷ 2 ∷ 1 ∷ 0 ∷ [])
-      ≡ 0x0001020304050607 ∷ 0x08090A0B0C0D0E0F ∷ 0x1011121314151617 ∷ 0x18191A1B1C1D1E1F
-      ∷ 0x2021222324252627 ∷ 0x28292A2B2C2D2E2F ∷ 0x3031323334353637 ∷ 0x38393A3B3C3D3E3F ∷ []
+  -- "Cells from s15 down to s0", in numerals: of the key 00 01 02 .. and the IV 00 07 0E .., so that K3 of 32 bytes, or K7 of 64, is 0001020304050607
+  pub loads-256 :
+      reverse (load (tabulate 32 (λ i. i)) (tabulate 32 (λ i. 7 * i)) .cells)
+      ≡ 0xE7E6E5E4E3E2E1E0 ∷ 0x1011121314151617 ∷ 0xF7F6F5F4F3F2F1F0 ∷ 0x0001020304050607
+      ∷ 0x18191A1B1C1D1E1F ∷ 0xEFEEEDECEBEAE9E8 ∷ 0x08090A0B0C0D0E0F ∷ 0x0001020304050607
+      ∷ 0xE7E6E5E4E3E2E1E0 ∷ 0xEFEEEDECEBEAE9E8 ∷ 0x080E041E102E243E ∷ 0x0001020304050607
+      ∷ 0x20265C5648467C76 ∷ 0x60666C9698868CB6 ∷ 0x08090A0B0C0D0E0F ∷ 0xA8AEB4BEC0CED4DE ∷ []
+  pub loads-512 :
+      reverse (load (tabulate 64 (λ i. i)) (tabulate 32 (λ i. 7 * i)) .cells)
+      ≡ 0x38393A3B3C3D3E3F ∷ 0xCFCECDCCCBCAC9C8 ∷ 0x28292A2B2C2D2E2F ∷ 0x2021222324252627
+      ∷ 0xFFFEFDFCFBFAF9F8 ∷ 0x1011121314151617 ∷ 0xF7F6F5F4F3F2F1F0 ∷ 0x181E140E003E342E
+      ∷ 0xC7C6C5C4C3C2C1C0 ∷ 0x3031323334353637 ∷ 0x10166C6678764C46 ∷ 0x2021222324252627
+      ∷ 0x686E649E908E84BE ∷ 0x1011121314151617 ∷ 0x08090A0B0C0D0E0F ∷ 0xA8AEB4BEC0CED4DE ∷ []
   -- sixteen cells and two registers are loaded, and all hold words
   pub loads-words : (key iv : List ℕ) → KeyAndIv key iv → EighteenWords (load key iv)
   -- with the IV known the key comes back from the cells that it loads, for both sizes, so the loading is one-to-one in the key

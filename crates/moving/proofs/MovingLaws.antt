@@ -16,7 +16,7 @@ use Rattle.opening.specs.Opening.{Leads}
 use Rattle.positions.specs.Positions.{movedTo}
 use Rattle.positions.proofs.PositionLaws.{position-laws}
 use Rattle.moving.specs.Moving.{movingTests, movingLines, moved}
-use Rattle.moving.specs.MovingLaws.{MovingRefusals, MovingLaws}
+use Rattle.moving.specs.MovingLaws.{MovingLaws}
 use Rattle.moving.proofs.Moves.{endTests, moves-to}
 
 -- ---- what an accepted move tells
@@ -40,11 +40,6 @@ accepted-ends s d e =
     by (negsuc k) ez ok e = absurd (omega arith)
 
 -- ---- the laws
-
-refuses : MovingRefusals
-refuses s d =
-    refuses-exactly (movingTests s d) (movingLines s d) (3 ∷ 4 ∷ 7 ∷ 8 ∷ []) _ s tt tt refl
-    (state-decides s (new-position-above-decides (newPosition s d), λ t7. (new-position-below-decides (newPosition s d), λ t8. tt)))
 
 moved-state : (s : State) (distance : ℤ) (e : moved s distance .number ≡ accepted) → moved s distance .state ≡ movedTo s (accepted-ends s distance e .to)
 moved-state s d e = let end = accepted-ends s d e in ap (λ (a : Answer). a .state) (sym (moves-to s d (end .well-formed) (end .there) (end .low) refl))
@@ -71,7 +66,9 @@ moved-leads key iv s d l e = subst (Leads key iv) (sym (moved-state s d e)) (pos
 pub moving-laws : MovingLaws
 moving-laws =
     record {
-      refuses = refuses;
+      refuses =
+          λ s d. refuses-exactly (movingTests s d) (movingLines s d) (3 ∷ 4 ∷ 7 ∷ 8 ∷ []) _ s tt tt refl
+          (state-decides s (new-position-above-decides (newPosition s d), λ t7. (new-position-below-decides (newPosition s d), λ t8. tt)));
       new-position = new-position;
       moved-well-formed = moved-well-formed;
       there-and-back = there-and-back;

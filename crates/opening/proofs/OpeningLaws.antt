@@ -10,12 +10,8 @@ use Rattle.answers.specs.Tests.{WellFormed}
 use Rattle.answers.proofs.Tests.{one-of}
 use Rattle.answers.proofs.Lines.{refuses-exactly, key-length-decides, iv-length-decides}
 use Rattle.opening.specs.Opening.{blank, openedState, openingTests, openingLines, opened, OpeningAccepts, Leads}
-use Rattle.opening.specs.OpeningLaws.{OpeningRefusals, OpeningsDiffer, OpeningLaws}
+use Rattle.opening.specs.OpeningLaws.{OpeningLaws}
 use Rattle.opening.proofs.Opened.{key-length, key-and-iv, key-and-iv-open}
-
-refuses : OpeningRefusals
-refuses key iv =
-    refuses-exactly (openingTests key iv) (openingLines key iv) (1 ∷ 2 ∷ []) (openedState key iv) blank tt tt refl (key-length-decides key, λ t1. (iv-length-decides iv, λ t2. tt))
 
 module _ (key iv : List ℕ) (e : opened key iv .number ≡ accepted) where
   opened-state : opened key iv .state ≡ openedState key iv
@@ -35,19 +31,19 @@ one-key-leads key key′ iv s l l′ =
     loading-laws .registers-one-to-one-in-key key key′ iv (key-and-iv (l .opening)) (key-and-iv (l′ .opening)) (sym (l .size) ∙ l′ .size) (s .position / 8)
     (sym (l .registers) ∙ l′ .registers)
 
-openings-differ : OpeningsDiffer
-openings-differ key iv key′ iv′ o o′ z z′ differ n e = differ (loading-laws .registers-one-to-one-in-both key iv key′ iv′ (key-and-iv o) (key-and-iv o′) z z′ n e)
-
 pub opening-laws : OpeningLaws
 opening-laws =
     record {
-      refuses = refuses;
+      refuses =
+          λ key iv. refuses-exactly (openingTests key iv) (openingLines key iv) (1 ∷ 2 ∷ []) (openedState key iv) blank tt tt refl
+          (key-length-decides key, λ t1. (iv-length-decides iv, λ t2. tt));
       opening-accepts = λ key iv. key-and-iv-open;
       opening-accepts-only = λ key iv. key-and-iv;
       opened-leads = opened-leads;
       opened-well-formed = opened-well-formed;
       opened-position = opened-position;
       one-key-leads = one-key-leads;
-      openings-differ = openings-differ;
+      openings-differ =
+          λ key iv key′ iv′ o o′ z z′ differ n e. differ (loading-laws .registers-one-to-one-in-both key iv key′ iv′ (key-and-iv o) (key-and-iv o′) z z′ n e);
       blank-refused = refl;
     }

@@ -3,6 +3,7 @@ ghost use mathlib.Core.Path.{_≡_};
 ghost use Rattle.generator.specs.declared.Kind.the-variants.{Ordinary};
 ghost use Rattle.substitution.specs.Substitution.{stepTables};
 ghost use Rattle.generator.specs.Functions.{nextIn};
+ghost use Rattle.answers.specs.Numbers.{accepted};
 ghost use Rattle.opening.specs.Opening.{opened};
 ghost use Rattle.moving.specs.Moving.{moved};
 ghost use Rattle.applying.specs.Applying.{applied, appliedTarget, windowed, windowedBuffer};
@@ -37,6 +38,7 @@ pub extern "C" fn strumok_apply(state: &mut [u64; 20], source: &[u8], target: &m
     ensures { λ r. ⌜ r ≡ applied (stateIn (now (state .entry))) (now (source .entry)) (now (target .entry)) .number ⌝ }
     ensures { λ _. ⌜ now (state .exit) ≡ wordsOf (applied (stateIn (now (state .entry))) (now (source .entry)) (now (target .entry)) .state) ⌝ }
     ensures { λ _. ⌜ now (target .exit) ≡ appliedTarget (stateIn (now (state .entry))) (now (source .entry)) (now (target .entry)) ⌝ }
+    ensures { λ r. ⌜ ((r ≡ accepted → ⊥) → now (state .exit) ≡ now (state .entry)) ⌝ }
 {
     let a = apply(state_in(*state), source, target);
     leave(state, a)
@@ -53,6 +55,7 @@ pub extern "C" fn strumok_window(
     ensures { λ r. ⌜ r ≡ windowed (stateIn (now (state .entry))) (now (buffer .entry)) start count .number ⌝ }
     ensures { λ _. ⌜ now (state .exit) ≡ wordsOf (windowed (stateIn (now (state .entry))) (now (buffer .entry)) start count .state) ⌝ }
     ensures { λ _. ⌜ now (buffer .exit) ≡ windowedBuffer (stateIn (now (state .entry))) (now (buffer .entry)) start count ⌝ }
+    ensures { λ r. ⌜ ((r ≡ accepted → ⊥) → now (state .exit) ≡ now (state .entry)) ⌝ }
 {
     let a = window(state_in(*state), buffer, start, count);
     leave(state, a)
@@ -63,6 +66,7 @@ pub extern "C" fn strumok_window(
 pub extern "C" fn strumok_move(state: &mut [u64; 20], distance: i64) -> u64
     ensures { λ r. ⌜ r ≡ moved (stateIn (now (state .entry))) distance .number ⌝ }
     ensures { λ _. ⌜ now (state .exit) ≡ wordsOf (moved (stateIn (now (state .entry))) distance .state) ⌝ }
+    ensures { λ r. ⌜ ((r ≡ accepted → ⊥) → now (state .exit) ≡ now (state .entry)) ⌝ }
 {
     let a = move_by(state_in(*state), distance);
     leave(state, a)
@@ -100,6 +104,7 @@ pub extern "C" fn strumok_apply_with(
     ensures { λ r. ⌜ r ≡ appliedBy (nextIn (now (tables .entry)) Ordinary) (stateIn (now (state .entry))) (now (source .entry)) (now (target .entry)) .number ⌝ }
     ensures { λ _. ⌜ now (state .exit) ≡ wordsOf (appliedBy (nextIn (now (tables .entry)) Ordinary) (stateIn (now (state .entry))) (now (source .entry)) (now (target .entry)) .state) ⌝ }
     ensures { λ _. ⌜ now (target .exit) ≡ appliedTargetBy (nextIn (now (tables .entry)) Ordinary) (stateIn (now (state .entry))) (now (source .entry)) (now (target .entry)) ⌝ }
+    ensures { λ r. ⌜ ((r ≡ accepted → ⊥) → now (state .exit) ≡ now (state .entry)) ⌝ }
 {
     let a = apply_with(state_in(*state), tables, source, target);
     leave(state, a)
@@ -117,6 +122,7 @@ pub extern "C" fn strumok_window_with(
     ensures { λ r. ⌜ r ≡ windowedBy (nextIn (now (tables .entry)) Ordinary) (stateIn (now (state .entry))) (now (buffer .entry)) start count .number ⌝ }
     ensures { λ _. ⌜ now (state .exit) ≡ wordsOf (windowedBy (nextIn (now (tables .entry)) Ordinary) (stateIn (now (state .entry))) (now (buffer .entry)) start count .state) ⌝ }
     ensures { λ _. ⌜ now (buffer .exit) ≡ windowedBufferBy (nextIn (now (tables .entry)) Ordinary) (stateIn (now (state .entry))) (now (buffer .entry)) start count ⌝ }
+    ensures { λ r. ⌜ ((r ≡ accepted → ⊥) → now (state .exit) ≡ now (state .entry)) ⌝ }
 {
     let a = window_with(state_in(*state), tables, buffer, start, count);
     leave(state, a)

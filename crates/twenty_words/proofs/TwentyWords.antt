@@ -9,6 +9,7 @@ use Rattle.galois.specs.Words.{at}
 use Rattle.generator.specs.declared.State.{State}
 use Rattle.generator.proofs.Cells.{oneByOne, oneByOne-is}
 use Rattle.answers.specs.declared.Answer.{Answer}
+use Rattle.answers.specs.Numbers.{accepted}
 use Rattle.twenty_words.specs.TwentyWords.{wordsOf, stateIn, TwentyWordsLaws}
 
 -- what the code of `state_in` makes
@@ -27,21 +28,26 @@ words-read s h =
     ap (λ (t : List ℕ). t ++ (s .r1 ∷ s .r2 ∷ s .size ∷ s .position ∷ []))
     (oneByOne-is (s .cells) 0 16 (omega arith) ∙ take-all 16 (s .cells) (omega arith))
 
--- the call f on the state t, whose answer a and words left are handed on: its number, and the words of its state
+-- the call f, which gives a state back in a refusal, on the state t of these words, whose answer a and words left are handed on: its number, the
+-- words of its state, and that they are these words where it is refused
 pub answered :
-    {left : List ℕ} {s t : State} {a : Answer} {n : ℕ} (f : State → Answer) → s ≡ t → a ≡ f s → n ≡ a .number → left ≡ wordsOf (a .state)
-    → (n ≡ f t .number) × (left ≡ wordsOf (f t .state))
-answered f same answer number stored =
+    {left words : List ℕ} {s t : State} {a : Answer} {n : ℕ} (f : State → Answer) → ((f t .number ≡ accepted → ⊥) → f t .state ≡ t)
+    → (s ≡ t) × (wordsOf s ≡ words) → a ≡ f s → n ≡ a .number → left ≡ wordsOf (a .state)
+    → (n ≡ f t .number) × ((left ≡ wordsOf (f t .state)) × ((n ≡ accepted → ⊥) → left ≡ words))
+answered f back (same, held) answer number stored =
     let is = answer ∙ ap f same in
-    (number ∙ ap (λ (x : Answer). x .number) is, stored ∙ ap (λ (x : Answer). wordsOf (x .state)) is)
+    let numbered = number ∙ ap (λ (x : Answer). x .number) is in
+    let left = stored ∙ ap (λ (x : Answer). wordsOf (x .state)) is in
+    (numbered, (left, λ refused. left ∙ ap wordsOf (back (λ e. refused (numbered ∙ e))) ∙ ap wordsOf (sym same) ∙ held))
 
 -- the same of a call that leaves a buffer too: g of the state
 pub answered-with :
-    {left ys : List ℕ} {s t : State} {a : Answer} {n : ℕ} (f : State → Answer) (g : State → List ℕ) → s ≡ t → a ≡ f s → ys ≡ g s → n ≡ a .number → left ≡ wordsOf (a .state)
-    → (n ≡ f t .number) × ((left ≡ wordsOf (f t .state)) × (ys ≡ g t))
-answered-with f g same answer buffer number stored =
-    let both = answered f same answer number stored in
-    (both .0, (both .1, buffer ∙ ap g same))
+    {left words ys : List ℕ} {s t : State} {a : Answer} {n : ℕ} (f : State → Answer) (g : State → List ℕ) → ((f t .number ≡ accepted → ⊥) → f t .state ≡ t)
+    → (s ≡ t) × (wordsOf s ≡ words) → a ≡ f s → ys ≡ g s → n ≡ a .number → left ≡ wordsOf (a .state)
+    → (n ≡ f t .number) × ((left ≡ wordsOf (f t .state)) × ((ys ≡ g t) × ((n ≡ accepted → ⊥) → left ≡ words)))
+answered-with f g back held answer buffer number stored =
+    let all = answered f back held answer number stored in
+    (all .0, (all .1 .0, (buffer ∙ ap g (held .0), all .1 .1)))
 
 -- ---- the laws
 

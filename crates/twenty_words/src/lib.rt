@@ -4,9 +4,10 @@ ghost use Rattle.twenty_words.specs.TwentyWords.{stateIn, wordsOf};
 use answers::Answer;
 use generator::State;
 
-// The state that twenty words hold.
+// The state that twenty words hold; these are its words.
 pub fn state_in(words: [u64; 20]) -> State
     ensures { λ r. ⌜ r ≡ stateIn words ⌝ }
+    ensures { λ r. ⌜ wordsOf r ≡ words ⌝ }
 {
     State {
         cells: [

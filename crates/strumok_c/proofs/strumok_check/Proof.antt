@@ -12,7 +12,7 @@ returns : tie.Need-returns
 returns c =
     let call = c .before .before in
     let args = call .before .before .before .before .before .before .args in
-    let held = call .before .before .state-in .ensures in (
+    let held = call .before .before .state-in .ensures .0 in (
       ap (λ (x : Answer). x .number) (call .check .ensures .0 ∙ ap (λ (s : State). checked s (args .iv .now) (args .key .now)) held),
       (
         call .check .ensures .1 .0 ∙ ap (λ (s : State). checkedTarget s (args .iv .now) (args .key .now)) held,
