@@ -1,8 +1,10 @@
 //! Another implementation of the stream cipher Strumok (DSTU 8845:2019), written from the cipher's
-//! description alone and independent of the proved library, which the tests run beside it.
+//! description alone and independent of the proved library, which the tests run beside it. Both
+//! have the π tables from one file, and share nothing else.
 //!
 //! - [`field`]: the two fields, α and T, by their rules, and the tables made from them;
 //! - [`cipher`]: registers, steps forward and back, loading, keystream words;
+//! - [`kalyna`]: the block cipher that T's tables and matrix come from, to test them;
 //! - [`calls`]: the five calls with their refusals, and what the cipher program must write;
 //! - [`vectors`]: the published vectors, and the list that the program `vectors` prints;
 //! - [`edges`]: the lists of edges that the programs `edges` and `checks` print;
@@ -12,5 +14,6 @@ pub mod calls;
 pub mod cipher;
 pub mod edges;
 pub mod field;
+pub mod kalyna;
 pub mod random;
 pub mod vectors;

@@ -48,7 +48,8 @@ fn read_vector(line: &str) -> Vector {
     vector
 }
 
-fn read_bytes(hex: &str) -> Vec<u8> {
+/// The bytes of a string of hexadecimal digits.
+pub fn read_bytes(hex: &str) -> Vec<u8> {
     (0..hex.len())
         .step_by(2)
         .map(|i| u8::from_str_radix(&hex[i..i + 2], 16).expect("a byte"))
