@@ -88,7 +88,7 @@ enum {
  * Opens a state, at position 0, from a key of 32 or 64 bytes and an IV of 32. Both stand with their highest word first, each word most
  * significant byte first. All twenty words of the state are written, whatever they held.
  *
- * Refusals, with the blank state: 1, 2. Every other call refuses the blank state.
+ * Refusals, with the blank state: 1, 2. Every call that takes a state refuses the blank one.
  */
 STRUMOK_MUST_USE STRUMOK_NONNULL
 uint64_t strumok_open(const uint8_t *key, size_t key_len, const uint8_t *iv, size_t iv_len, uint64_t state[STRUMOK_STATE_WORDS]);

@@ -101,15 +101,16 @@ WritesNothing a held left = (a .number ≡ accepted → ⊥) → left ≡ held
 
 -- ---- the laws: proofs/Lines.antt has `line-laws : LineLaws`
 
+-- the table's lines 1 to 9, in its order; line 10 is in checking
+abbrev pub tableLines : (key iv : List ℕ) (s : State) (len n start : ℕ) (to : ℤ) → List Line
+tableLines key iv s len n start to =
+    keyLengthLine key ∷ ivLengthLine iv ∷ sizeMarkLine s ∷ positionLine s ∷ targetLine n len ∷ windowLine len start n ∷ newPositionAboveLine to
+    ∷ newPositionBelowLine to ∷ keyTargetLine s len ∷ []
+
 pub record LineLaws : Type 0 where
-  -- the table's first column in numerals, for the lines in its order; line 10 is in checking
+  -- the table's first column in numerals, up to 9
   pub table-numbers :
-      (key iv : List ℕ) (s : State) (len n start : ℕ) (to : ℤ)
-      → numbersOf (
-      keyLengthLine key ∷ ivLengthLine iv ∷ sizeMarkLine s ∷ positionLine s ∷ targetLine n len ∷ windowLine len start n ∷ newPositionAboveLine to
-      ∷ newPositionBelowLine to ∷ keyTargetLine s len ∷ []
-      )
-      ≡ 1 ∷ 2 ∷ 3 ∷ 4 ∷ 5 ∷ 6 ∷ 7 ∷ 8 ∷ 9 ∷ []
+      (key iv : List ℕ) (s : State) (len n start : ℕ) (to : ℤ) → accepted ∷ numbersOf (tableLines key iv s len n start to) ≡ 0 ∷ 1 ∷ 2 ∷ 3 ∷ 4 ∷ 5 ∷ 6 ∷ 7 ∷ 8 ∷ 9 ∷ []
   -- "A state is well-formed when neither 3 nor 4 of the table below applies to it."
   pub well-formed : (s : State) → NoneApplies (stateLines s) → WellFormed s
   pub well-formed-only : (s : State) → WellFormed s → NoneApplies (stateLines s)

@@ -85,7 +85,7 @@ module _ (s : State) (xs ys target : List ℕ) where
         second =
             ap₂ (λ (x : State) (l : List ℕ). applied x ys l) state (portion-back s xs target one) ∙ sym (portion-answer t ys rest two)
             ∙ ap (λ (x : State). record { number = accepted; state = x }) end ∙ portion-answer s (xs ++ ys) target a;
-        bytes =
+        bytes-of-both =
             sym (portion-bytes s (xs ++ ys) target a)
             ∙ ap₂ _++_ (masked-append (keystreamByteOf s) (s .position) xs ys) (ap (λ (k : ℕ). drop k target) both-length ∙ sym (drop-drop m n target))
             ∙ append-assoc (withKeystream s xs) (masked (keystreamByteOf s) (s .position + n) ys) (drop m rest)

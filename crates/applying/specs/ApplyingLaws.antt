@@ -22,14 +22,12 @@ use Rattle.applying.specs.Applying.{keystreamByte, keystreamByteOf, appl
 -- 6, 7"
 abbrev pub ApplyingRefusals : Type 0
 ApplyingRefusals =
-    (s : State) (source target : List ℕ)
-    → RefusesExactly (applied s source target) (applyingLines s (length source) (length target)) (3 ∷ 4 ∷ 5 ∷ 7 ∷ []) s
+    (s : State) (source target : List ℕ) → RefusesExactly (applied s source target) (applyingLines s (length source) (length target)) (3 ∷ 4 ∷ 5 ∷ 7 ∷ []) s
     × WritesNothing (applied s source target) target (appliedTarget s source target)
 
 abbrev pub WindowRefusals : Type 0
 WindowRefusals =
-    (s : State) (buffer : List ℕ) (start count : ℕ)
-    → RefusesExactly (windowed s buffer start count) (windowLines s (length buffer) start count) (3 ∷ 4 ∷ 6 ∷ 7 ∷ []) s
+    (s : State) (buffer : List ℕ) (start count : ℕ) → RefusesExactly (windowed s buffer start count) (windowLines s (length buffer) start count) (3 ∷ 4 ∷ 6 ∷ 7 ∷ []) s
     × WritesNothing (windowed s buffer start count) buffer (windowedBuffer s buffer start count)
 
 -- the eight bytes of the Z of S_n
@@ -40,7 +38,7 @@ wordBytesOf key iv n = tabulate 8 (byteAt (keystreamWord (registersAt key iv n))
 pub record TwoPortions (s : State) (xs ys target : List ℕ) : Type 0 where
   pub first : applied s xs target .number ≡ accepted
   pub second : applied (applied s xs target .state) ys (drop (length xs) (appliedTarget s xs target)) ≡ applied s (xs ++ ys) target
-  pub bytes :
+  pub bytes-of-both :
       appliedTarget s (xs ++ ys) target
       ≡ take (length xs) (appliedTarget s xs target) ++ appliedTarget (applied s xs target .state) ys (drop (length xs) (appliedTarget s xs target))
 

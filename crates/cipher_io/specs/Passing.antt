@@ -1,5 +1,5 @@
 -- What the functions of the cipher program answer and leave. No contract can say which bytes a read brings, so they are fields here, named and
--- otherwise free; all else follows from them. Free too is why reading or writing stopped, but for what is said of `goingOn`.
+-- otherwise free; all else follows from them. Free too is why reading or writing stopped, but for what is said of `goingOn` and `writingFailed`.
 use mathlib.Core.Path.{_≡_}
 use mathlib.Core.List.{List, [], _++_}
 use Prim.Native.Nat.{ℕ, _+_, _-_, _<_, _≤_, min}
@@ -36,7 +36,8 @@ pub record PiecePassed (s : State) (len : ℕ) (left : List ℕ) (t : State) (st
   pub rest : List ℕ
   pub same-length : length (piece ++ rest) ≡ len
   pub room : length piece ≤ min len (limit - s .position)
-  -- the window call over the piece, and what it left
+  -- the window call over the piece, and what it left; since the piece is free, that the buffer is so says no more than its length, and the contract
+  -- of `write_piece`, which has the piece at entry, says the rest
   pub state : t ≡ windowed s piece 0 (length piece) .state
   pub buffer : left ≡ windowedBuffer s piece 0 (length piece) ++ rest
   -- the program goes on only after a piece that has bytes and was accepted

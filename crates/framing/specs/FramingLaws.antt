@@ -34,7 +34,7 @@ pub record FramingLaws : Type 0 where
   -- the same lines in numerals
   pub refused-1 : refusalLine 1 ≡ 114 ∷ 101 ∷ 102 ∷ 117 ∷ 115 ∷ 101 ∷ 100 ∷ 32 ∷ 49 ∷ 10 ∷ []
   pub refused-2 : refusalLine 2 ≡ 114 ∷ 101 ∷ 102 ∷ 117 ∷ 115 ∷ 101 ∷ 100 ∷ 32 ∷ 50 ∷ 10 ∷ []
-  -- the header is enough: its first byte and as many after it as that one says, or the whole input where that is shorter
+  -- the header is enough: its first byte, the key and the IV, or the whole input where that is shorter
   pub header-alone : (input : List ℕ) → started (take (33 + keyLengthIn input) input) ≡ started input
   -- however the data up to the limit are divided into pieces, what the calls leave in them is the data with the keystream applied
   pub pieces :

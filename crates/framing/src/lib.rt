@@ -1,4 +1,4 @@
-// The cipher program's input: the state that its header opens, and how much of the data to take at a time.
+// The cipher program's input: the state that its header opens, how much of the data to take at a time, and the line of a refusal.
 ghost use mathlib.Core.Path.{_≡_};
 ghost use Prim.Native.Nat.{_+_, _-_, _<_, _≤_, min};
 ghost use lib.ListN.{length};

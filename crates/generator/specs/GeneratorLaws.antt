@@ -25,8 +25,8 @@ pub record GeneratorLaws : Type 0 where
   -- so do walks of n steps, for every n
   pub back-forward : (kind : Kind) (n : ℕ) → UndoneBy (iterate (previous kind) n) (iterate (next kind) n)
   pub forward-back : (kind : Kind) (n : ℕ) → UndoneBy (iterate (next kind) n) (iterate (previous kind) n)
-  -- and walks of n steps, on and back, are one-to-one, for every n
-  pub walks-one-to-one : (kind : Kind) (n : ℕ) → OneToOne (iterate (next kind) n) × OneToOne (iterate (previous kind) n)
+  -- and what is undone is one-to-one: so are walks of n steps, on and back, for every n
+  pub undone-one-to-one : (g f : Registers → Registers) → UndoneBy g f → OneToOne f
   -- walks compose, whatever the step
   pub walks-compose : (f : Registers → Registers) (m n : ℕ) (r : Registers) → iterate f (m + n) r ≡ iterate f n (iterate f m r)
   -- with the tables of T, α and their inverses, the functions' steps are these

@@ -10,7 +10,7 @@ use Rattle.substitution.specs.Substitution.{substitute}
 use Rattle.generator.specs.declared.Kind.the-variants.{Ordinary}
 use Rattle.generator.specs.Registers.{Registers, F, nextWith, next, keystreamWord}
 use Rattle.loading.specs.Loading.{wordOf, loadedCells, load, initialised, registersAt}
-use Rattle.loading.specs.FirstWords.{key80, iv4321, firstWords, FirstWords}
+use Rattle.loading.specs.FirstWords.{key80, iv4321, twoWords, FirstWords}
 
 -- S_0 of each size
 abbrev s0-256 : Registers
@@ -49,7 +49,7 @@ is-s0-512 = refl
 abbrev wordsFrom : Registers → List ℕ
 wordsFrom s0 = keystreamWord s0 ∷ keystreamWord (next Ordinary s0) ∷ []
 
-words-from : (key iv : List ℕ) → firstWords key iv ≡ wordsFrom (registersAt key iv 0)
+words-from : (key iv : List ℕ) → twoWords key iv ≡ wordsFrom (registersAt key iv 0)
 unfolding registersAt
 words-from key iv = refl
 

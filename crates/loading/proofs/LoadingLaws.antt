@@ -143,21 +143,11 @@ walk-back-undone n =
     subst (λ (m : ℕ). UndoneBy (λ r. iterate (next Ordinary) n (initialised r)) (λ r. iterate (previous Initial) initialSteps (iterate (previous Ordinary) m r))) (sym (add-one n))
     (undone-compose (undone-compose (generator-laws .forward-back Ordinary n) (generator-laws .next-previous Ordinary)) (generator-laws .forward-back Initial initialSteps))
 
--- registers after n steps that are the same were loaded alike: each walk on the way is one-to-one
+-- registers after n steps that are the same were loaded alike
 loaded-alike : (key iv key′ iv′ : List ℕ) → KeyAndIv key iv → KeyAndIv key′ iv′ → (n : ℕ) → registersAt key iv n ≡ registersAt key′ iv′ n → load key iv ≡ load key′ iv′
-unfolding initialised registersAt
+unfolding registersAt
 loaded-alike key iv key′ iv′ o o′ n e =
-    let a = load key iv in
-    let b = load key′ iv′ in
-    let wa = loads-words key iv o in
-    let wb = loads-words key′ iv′ o′ in
-    let after-initial = generator-laws .back-forward Initial initialSteps .keeps in
-    let after-one = generator-laws .back-forward Ordinary 1 .keeps in
-    let ia = iterate (next Initial) initialSteps a in
-    let ib = iterate (next Initial) initialSteps b in
-    generator-laws .walks-one-to-one Initial initialSteps .0 a b wa wb
-    (generator-laws .walks-one-to-one Ordinary 1 .0 ia ib (after-initial a wa) (after-initial b wb)
-    (generator-laws .walks-one-to-one Ordinary n .0 (next Ordinary ia) (next Ordinary ib) (after-one ia (after-initial a wa)) (after-one ib (after-initial b wb)) e))
+    generator-laws .undone-one-to-one (loadedFrom n) (λ r. iterate (next Ordinary) n (initialised r)) (walk-back-undoes n) (load key iv) (load key′ iv′) (loads-words key iv o) (loads-words key′ iv′ o′) e
 
 pub loading-laws : LoadingLaws
 unfolding wordOf loadedCells load

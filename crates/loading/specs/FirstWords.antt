@@ -17,9 +17,9 @@ abbrev pub iv4321 : List ℕ
 iv4321 = wordBytes 4 ++ wordBytes 3 ++ wordBytes 2 ++ wordBytes 1
 
 -- the keystream words of S_0 and S_1
-abbrev pub firstWords : (key iv : List ℕ) → List ℕ
-firstWords key iv = keystreamWord (registersAt key iv 0) ∷ keystreamWord (registersAt key iv 1) ∷ []
+abbrev pub twoWords : (key iv : List ℕ) → List ℕ
+twoWords key iv = keystreamWord (registersAt key iv 0) ∷ keystreamWord (registersAt key iv 1) ∷ []
 
 pub record FirstWords : Type 0 where
-  pub first-words-256 : firstWords (key80 31) iv4321 ≡ 0xFE44A2508B5A2ACD ∷ 0xAF355B4ED21D2742 ∷ []
-  pub first-words-512 : firstWords (key80 63) iv4321 ≡ 0xCCA12EAE8133AAAA ∷ 0x528D85507CE8501D ∷ []
+  pub first-words-256 : twoWords (key80 31) iv4321 ≡ 0xFE44A2508B5A2ACD ∷ 0xAF355B4ED21D2742 ∷ []
+  pub first-words-512 : twoWords (key80 63) iv4321 ≡ 0xCCA12EAE8133AAAA ∷ 0x528D85507CE8501D ∷ []

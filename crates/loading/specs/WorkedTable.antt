@@ -69,8 +69,7 @@ workedRows =
     -- 10. One ordinary step from case 8: the same r1 and r2, s15 = FFFFFFFFFFFFFFFF.
     ∷ record { computed = stepped Ordinary; expected = 0xFFFFFFFFFFFFFFFF ∷ 0x14E6CC3F14E6CC3F ∷ 0xFFFFFFFFFFFFFFFF ∷ [] }
     -- 11. 512, all words zero but K4 = IV3 = IV1 = 1: the cells equal those for all zero.
-    ∷ record { computed = load key11 iv11 .cells ++ load (zeros 64) (zeros 32) .cells; expected = cells11 ++ cells11 }
-    ∷ []
+    ∷ record { computed = load key11 iv11 .cells ++ load (zeros 64) (zeros 32) .cells; expected = cells11 ++ cells11 } ∷ []
 
 -- what is computed is what is expected, in every row
 abbrev pub WorkedTable : Type 0

@@ -5,8 +5,8 @@ use Prim.Native.Nat.{ℕ, suc, _%_}
 use lib.Bits.{bitXor}
 use Rattle.galois.specs.Words.{byte, tabulate}
 
--- "Keystream byte p is byte (p mod 8) of that word's Z, least significant byte first." The order of bytes in a word is said here alone, and once
--- more in numerals, in the law below.
+-- "Keystream byte p is byte (p mod 8) of that word's Z, least significant byte first." The order of bytes in a word is said here, and in
+-- numerals in the law below.
 unfoldable pub byteAt : (z p : ℕ) → ℕ
 byteAt z p = byte z (p % 8)
 

@@ -45,5 +45,5 @@ opening-laws =
       one-key-leads = one-key-leads;
       openings-differ =
           λ key iv key′ iv′ o o′ z z′ differ n e. differ (loading-laws .registers-one-to-one-in-both key iv key′ iv′ (key-and-iv o) (key-and-iv o′) z z′ n e);
-      blank-refused = refl;
+      blank-tests = refl;
     }

@@ -33,4 +33,4 @@ pub record OpeningLaws : Type 0 where
   pub one-key-leads : (key key′ iv : List ℕ) (s : State) → Leads key iv s → Leads key′ iv s → key ≡ key′
   pub openings-differ : OpeningsDiffer
   -- the blank state is refused by the tests of a state
-  pub blank-refused : returned (stateTests blank) ≡ 3
+  pub blank-tests : returned (stateTests blank) ≡ 3

@@ -30,8 +30,8 @@ keystream key iv calls s r =
       size = l .size;
       position = chain-laws .reached-position key iv calls s r;
       registers = l .registers;
-      portion = applying-laws .portion-ciphers key iv s l;
-      window = applying-laws .window-ciphers key iv s l;
+      portions = applying-laws .portion-ciphers key iv s l;
+      windows = applying-laws .window-ciphers key iv s l;
     }
 
 -- ---- 3. Stored states

@@ -41,10 +41,10 @@ pub record KeystreamAt (key iv : List ℕ) (calls : List Call) (s : State) : Typ
   pub size : s .size ≡ sizeMark key
   pub position : pos (s .position) ≡ total calls
   pub registers : registersOf s ≡ registersAt key iv (s .position / 8)
-  pub portion :
+  pub portions :
       (source target : List ℕ) → applied s source target .number ≡ accepted
       → Ciphered key iv (s .position) (length source) 0 source target (appliedTarget s source target)
-  pub window :
+  pub windows :
       (buffer : List ℕ) (start count : ℕ) → windowed s buffer start count .number ≡ accepted
       → Ciphered key iv (s .position) count start (drop start buffer) buffer (windowedBuffer s buffer start count)
 
