@@ -1,4 +1,3 @@
--- The numbers of document 01's table, their tests and their lines.
-pub mod Numbers
+-- The tests and the lines of document 01's table.
 pub mod Tests
 pub mod Lines

@@ -1,20 +1,15 @@
--- Document 01, the table of returned numbers: each line but 10 as a proposition, and what demand 1 asks of a call that is refused by such lines.
+-- Document 01, the table of returned numbers: each line but 5 and 10 as a proposition, and what demand 1 asks of a call that is refused by such lines.
 use mathlib.Core.Path.{_≡_}
-use mathlib.Core.Logic.{_⊎_}
-use mathlib.Core.List.{List, [], _∷_, map}
-use Prim.Native.Nat.{ℕ, _+_, _/_, _<_, _≤_}
+use mathlib.Core.List.{List, [], _∷_}
+use Prim.Native.Nat.{ℕ, _+_, _/_, _<_}
 use lib.IntN.{ℤ, pos}
 use lib.ListN.{length}
 use lib.Signed.{_<ℤ_}
 use Rattle.generator.specs.declared.State.{State}
+use Rattle.refusals.specs.Numbers.{accepted, refusedKeyLength, refusedIvLength, refusedSizeMark, refusedPositionAbove, refusedWindowPastEnd, refusedNewPositionAbove, refusedNewPositionBelow, refusedKeyTargetLength}
+use Rattle.refusals.specs.Lines.{Line, targetLine, numbersOf, NoneLower, NoneApplies, RefusesInOrder}
 use Rattle.answers.specs.declared.Answer.{Answer}
 use Rattle.answers.specs.Tests.{WellFormed}
-use Rattle.answers.specs.Numbers.{accepted, refusedKeyLength, refusedIvLength, refusedSizeMark, refusedPositionAbove, refusedTargetShorter, refusedWindowPastEnd, refusedNewPositionAbove, refusedNewPositionBelow, refusedKeyTargetLength}
-
--- a line of the table: its number, and when it applies
-pub record Line : Type 1 where
-  pub number : ℕ
-  pub When : Type 0
 
 -- ---- the lines
 
@@ -33,10 +28,6 @@ sizeMarkLine s = record { number = refusedSizeMark; When = (s .size ≡ 256 → 
 -- "position above 16,777,216"
 abbrev pub positionLine : State → Line
 positionLine s = record { number = refusedPositionAbove; When = 16777216 < s .position }
-
--- "target shorter than source": a source of n bytes and a target of len
-abbrev pub targetLine : (n len : ℕ) → Line
-targetLine n len = record { number = refusedTargetShorter; When = len < n }
 
 -- "window start + count above the buffer length, as whole numbers": a buffer of len bytes
 abbrev pub windowLine : (len start count : ℕ) → Line
@@ -64,34 +55,11 @@ stateLines s = sizeMarkLine s ∷ positionLine s ∷ []
 
 -- ---- a call that is refused by lines
 
--- the numbers of lines, in their order
-abbrev pub numbersOf : List Line → List ℕ
-numbersOf lines = map (λ line. line .number) lines
-
--- n is the number of the first line that applies, and 0 where none does
-abbrev pub NumberOfFirst : ℕ → List Line → Type 0
-NumberOfFirst n [] = n ≡ accepted
-NumberOfFirst n (line ∷ lines) = (line .When × (n ≡ line .number)) ⊎ ((line .When → ⊥) × NumberOfFirst n lines)
-
--- no line that applies has a number below n
-abbrev pub NoneLower : ℕ → List Line → Type 0
-NoneLower n [] = Unit
-NoneLower n (line ∷ lines) = (line .When → n ≤ line .number) × NoneLower n lines
-
-abbrev pub NoneApplies : List Line → Type 0
-NoneApplies [] = Unit
-NoneApplies (line ∷ lines) = (line .When → ⊥) × NoneApplies lines
-
 -- a call that answers a, where these lines are tested, whose numbers are these, and a refusal gives this state back
 pub record RefusesExactly (a : Answer) (lines : List Line) (numbers : List ℕ) (back : State) : Type 0 where
-  -- the call's tests as document 01 lists them, as in "Opening tests 1, 2"
-  pub order : numbersOf lines ≡ numbers
+  pub in-order : RefusesInOrder (a .number) lines numbers
   -- "The lowest number that applies is returned, and otherwise 0."
-  pub first : NumberOfFirst (a .number) lines
   pub lowest : NoneLower (a .number) lines
-  -- "All else is accepted"
-  pub accepts : NoneApplies lines → a .number ≡ accepted
-  pub accepts-only : a .number ≡ accepted → NoneApplies lines
   -- "gives the state back as it came (a refused opening gives a blank one)"
   pub gives-back : (a .number ≡ accepted → ⊥) → a .state ≡ back
 

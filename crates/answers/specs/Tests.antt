@@ -1,7 +1,6 @@
--- Document 01, the table of returned numbers: the test that each number but 10 stands for, which one a call returns, and what a call then answers
--- and leaves in a buffer.
+-- Document 01, the table of returned numbers: the test that each number but 5 and 10 stands for, and what a call answers.
 use mathlib.Core.Path.{_≡_}
-use mathlib.Core.Bool.{Bool, cond, not, _||_}
+use mathlib.Core.Bool.{cond, not, _||_}
 use mathlib.Core.List.{List, [], _∷_}
 use Prim.Native.Nat.{ℕ, _+_, _/_}
 use lib.Dec.{eqb, ltb}
@@ -9,13 +8,13 @@ use lib.IntN.{ℤ, pos, _+ℤ_}
 use lib.ListN.{length}
 use lib.Signed.{ltZ}
 use Rattle.generator.specs.declared.State.{State}
+use Rattle.refusals.specs.Numbers.{accepted, refusedKeyLength, refusedIvLength, refusedSizeMark, refusedPositionAbove, refusedWindowPastEnd, refusedNewPositionAbove, refusedNewPositionBelow, refusedKeyTargetLength}
+use Rattle.refusals.specs.Tests.{Test, returned}
 use Rattle.answers.specs.declared.Answer.{Answer}
-use Rattle.answers.specs.Numbers.{limit, accepted, refusedKeyLength, refusedIvLength, refusedSizeMark, refusedPositionAbove, refusedTargetShorter, refusedWindowPastEnd, refusedNewPositionAbove, refusedNewPositionBelow, refusedKeyTargetLength}
 
--- a number, and whether what it stands for is the case
-pub record Test : Type 0 where
-  pub number : ℕ
-  pub applies : Bool
+-- "Positions run from 0 to 16,777,216 inclusive."
+abbrev pub limit : ℕ
+limit = 16777216
 
 -- ---- the tests
 
@@ -30,10 +29,6 @@ sizeMarkTest s = record { number = refusedSizeMark; applies = not (eqb (s .size)
 
 abbrev pub positionTest : State → Test
 positionTest s = record { number = refusedPositionAbove; applies = ltb limit (s .position) }
-
--- for a source of n bytes and a target of len
-abbrev pub targetTest : (n len : ℕ) → Test
-targetTest n len = record { number = refusedTargetShorter; applies = ltb len n }
 
 -- for a buffer of len bytes
 abbrev pub windowTest : (len start count : ℕ) → Test
@@ -59,11 +54,6 @@ stateTests s = sizeMarkTest s ∷ positionTest s ∷ []
 
 -- ---- what is returned
 
--- "The lowest number that applies is returned, and otherwise 0": the first of a call's list, and each list goes up
-abbrev pub returned : List Test → ℕ
-returned [] = accepted
-returned (t ∷ ts) = cond (t .applies) (t .number) (returned ts)
-
 -- document 01's term: "A state is well-formed when neither 3 nor 4 of the table below applies to it."
 abbrev pub WellFormed : State → Type 0
 WellFormed s = returned (stateTests s) ≡ accepted
@@ -71,7 +61,3 @@ WellFormed s = returned (stateTests s) ≡ accepted
 -- the answer of a call with these tests: the state that it makes where none applies, and else the one that a refusal gives back
 abbrev pub answerOf : List Test → (made back : State) → Answer
 answerOf tests made back = record { number = returned tests; state = cond (eqb (returned tests) accepted) made back }
-
--- "No buffer is written": what a call with these tests leaves in a buffer, where none applies, and else what it held
-abbrev pub written : List Test → (made held : List ℕ) → List ℕ
-written tests made held = cond (eqb (returned tests) accepted) made held

@@ -1,9 +1,12 @@
-// What all calls share: the answer, the refusal numbers, the tests of a state, and what a refusal gives back.
-pub mod numbers;
-
+// What all calls share: the answer, the last position, the tests of a state, and what a refusal gives back.
 ghost use mathlib.Core.Path.{_≡_};
-ghost use Rattle.answers.specs.Tests.{stateTests, returned};
+ghost use Rattle.refusals.specs.Tests.{returned};
+ghost use Rattle.answers.specs.Tests.{stateTests};
 use generator::State;
+use refusals::numbers;
+
+// The last byte position.
+pub const LIMIT: u64 = 16777216;
 
 // The number of the refusal, 0 where the call is accepted, and the state.
 pub struct Answer {
@@ -18,7 +21,7 @@ pub fn state_number(s: State) -> u64
     let size = s.size;
     match size {
         256 | 512 => {
-            if s.position > numbers::LIMIT {
+            if s.position > LIMIT {
                 numbers::REFUSED_POSITION_ABOVE
             } else {
                 numbers::ACCEPTED

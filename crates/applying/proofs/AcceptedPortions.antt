@@ -10,9 +10,11 @@ use Rattle.generator.specs.declared.State.{State}
 use Rattle.generator.specs.Registers.{Registers, registersOf, keystreamWord}
 use Rattle.masking.specs.Masking.{byteAt, masked}
 use Rattle.masking.proofs.Masked.{masked-length, masked-ext}
-use Rattle.answers.specs.Numbers.{limit, accepted}
-use Rattle.answers.specs.Tests.{targetTest, WellFormed}
-use Rattle.answers.proofs.Tests.{answer-accepted, written-accepted}
+use Rattle.refusals.specs.Numbers.{accepted}
+use Rattle.refusals.specs.Tests.{targetTest}
+use Rattle.refusals.proofs.Tests.{written-accepted}
+use Rattle.answers.specs.Tests.{limit, WellFormed}
+use Rattle.answers.proofs.Tests.{answer-accepted}
 use Rattle.opening.specs.Opening.{Leads}
 use Rattle.positions.specs.Positions.{movedTo}
 use Rattle.positions.proofs.PositionLaws.{position-laws}

@@ -8,7 +8,8 @@ use Rattle.generator.specs.declared.Kind.{Kind}
 use Rattle.generator.specs.declared.Kind.the-variants.{Ordinary}
 use Rattle.generator.specs.Registers.{Registers, next}
 use Rattle.generator.proofs.GeneratorLaws.{generator-laws}
-use Rattle.answers.specs.Tests.{answerOf, written}
+use Rattle.refusals.specs.Tests.{written}
+use Rattle.answers.specs.Tests.{answerOf}
 use Rattle.positions.specs.Positions.{movedTo}
 use Rattle.applying.specs.Applying.{withKeystream, applyingTests, windowTests}
 use Rattle.applying.specs.AnyStep.{advancedBy, withKeystreamBy}

@@ -12,12 +12,15 @@ use lib.Seq.{drop-drop, drop-length}
 use Rattle.generator.specs.declared.State.{State}
 use Rattle.masking.specs.Masking.{byteAt, masked}
 use Rattle.masking.proofs.Masked.{masked-length, masked-append, masked-drop, masked-masked}
+use Rattle.refusals.specs.Numbers.{accepted}
+use Rattle.refusals.specs.Tests.{Test, targetTest, returned, written}
+use Rattle.refusals.specs.Lines.{Line, targetLine}
+use Rattle.refusals.proofs.Lines.{Decides, DecideAll, writes-nothing, target-decides}
 use Rattle.answers.specs.declared.Answer.{Answer}
-use Rattle.answers.specs.Numbers.{accepted}
-use Rattle.answers.specs.Tests.{Test, targetTest, windowTest, returned, WellFormed, answerOf, written}
-use Rattle.answers.specs.Lines.{Line, targetLine, windowLine, RefusesExactly, WritesNothing}
+use Rattle.answers.specs.Tests.{windowTest, WellFormed, answerOf}
+use Rattle.answers.specs.Lines.{windowLine, RefusesExactly, WritesNothing}
 use Rattle.answers.proofs.Tests.{position-le}
-use Rattle.answers.proofs.Lines.{Decides, DecideAll, refuses-exactly, writes-nothing, state-decides, target-decides, window-decides, new-position-on-decides}
+use Rattle.answers.proofs.Lines.{refuses-exactly, state-decides, window-decides, new-position-on-decides}
 use Rattle.positions.specs.Positions.{movedTo}
 use Rattle.positions.proofs.PositionLaws.{position-laws}
 use Rattle.applying.specs.Applying.{keystreamByte, keystreamByteOf, withKeystream, advancingTests, advancingLines, applyingTests, applyingLines, applied, appliedTarget, windowTests, windowLines, windowed, windowedBuffer}

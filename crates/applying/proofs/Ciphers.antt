@@ -11,8 +11,9 @@ use lib.Seq.{length-take-le, getD-append-add, getD-take, getD-drop}
 use Rattle.galois.specs.Words.{at}
 use Rattle.generator.specs.declared.State.{State}
 use Rattle.masking.proofs.Masked.{masked-length, masked-at}
-use Rattle.answers.specs.Numbers.{accepted}
-use Rattle.answers.specs.Tests.{Test, targetTest, windowTest, newPosition}
+use Rattle.refusals.specs.Numbers.{accepted}
+use Rattle.refusals.specs.Tests.{Test, targetTest}
+use Rattle.answers.specs.Tests.{windowTest, newPosition}
 use Rattle.opening.specs.Opening.{Leads}
 use Rattle.positions.specs.Positions.{movedTo}
 use Rattle.positions.specs.PositionLaws.{LedTo}

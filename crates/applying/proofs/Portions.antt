@@ -16,12 +16,14 @@ use Rattle.generator.specs.Registers.{Registers, registersOf, next, keystreamWo
 use Rattle.keystream_words.specs.Keystream.{streamByte}
 use Rattle.masking.proofs.Masked.{masked-ext}
 use Rattle.masking.proofs.Words.{byte-at-mod}
-use Rattle.answers.specs.Tests.{Test, sizeMarkTest, positionTest, targetTest, windowTest, newPositionAboveTest, stateTests, returned, WellFormed, newPosition}
-use Rattle.answers.specs.Numbers.{limit, accepted, refusedNewPositionAbove}
+use Rattle.refusals.specs.Tests.{Test, targetTest, returned}
+use Rattle.refusals.specs.Numbers.{accepted, refusedNewPositionAbove}
+use Rattle.answers.specs.Tests.{limit, sizeMarkTest, positionTest, windowTest, newPositionAboveTest, stateTests, WellFormed, newPosition}
 use Rattle.positions.specs.Positions.{movedTo}
 use Rattle.applying.specs.Applying.{keystreamByteOf, withKeystream, advancingTests, applyingTests, windowTests}
 use Rattle.applying.specs.AnyStep.{advancedBy, withKeystreamBy, appliedBy, appliedTargetBy, windowedBy, windowedBufferBy}
-use Rattle.answers.proofs.Tests.{numbered, returned-first, returned-rest, returned-none, answer-accepted, written-accepted}
+use Rattle.refusals.proofs.Tests.{numbered, returned-first, returned-rest, returned-none, written-accepted}
+use Rattle.answers.proofs.Tests.{answer-accepted}
 use Rattle.positions.proofs.PositionLaws.{moved-ahead}
 
 -- ---- the number

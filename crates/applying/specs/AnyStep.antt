@@ -7,8 +7,9 @@ use Rattle.generator.specs.declared.State.{State}
 use Rattle.generator.specs.Registers.{Registers, registersOf, stateOf, iterate}
 use Rattle.masking.specs.Masking.{masked}
 use Rattle.keystream_words.specs.Keystream.{streamByte}
+use Rattle.refusals.specs.Tests.{written}
 use Rattle.answers.specs.declared.Answer.{Answer}
-use Rattle.answers.specs.Tests.{answerOf, written}
+use Rattle.answers.specs.Tests.{answerOf}
 use Rattle.applying.specs.Applying.{applyingTests, windowTests}
 
 -- the state n bytes on, by the step f

@@ -10,9 +10,11 @@ use Rattle.generator.specs.declared.State.{State}
 use Rattle.generator.specs.Registers.{registersOf, keystreamWord}
 use Rattle.masking.specs.Masking.{byteAt, masked}
 use Rattle.loading.specs.Loading.{registersAt}
+use Rattle.refusals.specs.Tests.{Test, targetTest, written}
+use Rattle.refusals.specs.Lines.{Line, targetLine}
 use Rattle.answers.specs.declared.Answer.{Answer}
-use Rattle.answers.specs.Tests.{Test, stateTests, targetTest, windowTest, newPosition, newPositionAboveTest, answerOf, written}
-use Rattle.answers.specs.Lines.{Line, stateLines, targetLine, windowLine, newPositionOnLine}
+use Rattle.answers.specs.Tests.{stateTests, windowTest, newPosition, newPositionAboveTest, answerOf}
+use Rattle.answers.specs.Lines.{stateLines, windowLine, newPositionOnLine}
 use Rattle.positions.specs.Positions.{movedTo}
 
 -- "A state at position p holds the registers of S at word floor(p/8). Keystream byte p is byte (p mod 8) of that word's Z": of a key and an IV

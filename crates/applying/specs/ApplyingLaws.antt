@@ -10,7 +10,7 @@ use Rattle.generator.specs.declared.State.{State}
 use Rattle.generator.specs.Registers.{keystreamWord}
 use Rattle.masking.specs.Masking.{byteAt}
 use Rattle.loading.specs.Loading.{registersAt}
-use Rattle.answers.specs.Numbers.{accepted}
+use Rattle.refusals.specs.Numbers.{accepted}
 use Rattle.answers.specs.Tests.{newPosition, WellFormed}
 use Rattle.answers.specs.Lines.{RefusesExactly, WritesNothing}
 use Rattle.opening.specs.Opening.{Leads}

@@ -5,17 +5,18 @@ ghost use lib.Dec.{ltb};
 ghost use lib.ListN.{length};
 ghost use Rattle.generator.specs.declared.Kind.the-variants.{Ordinary};
 ghost use Rattle.generator.specs.Functions.{nextIn};
-ghost use Rattle.answers.specs.Numbers.{limit};
-ghost use Rattle.answers.specs.Tests.{returned};
+ghost use Rattle.refusals.specs.Tests.{returned};
+ghost use Rattle.answers.specs.Tests.{limit};
 ghost use Rattle.applying.specs.Applying.{advancingTests, applied, appliedTarget, windowed, windowedBuffer};
 ghost use Rattle.applying.specs.AnyStep.{advancedBy, withKeystreamBy, appliedBy, appliedTargetBy, windowedBy, windowedBufferBy};
 use answers::Answer;
-use answers::numbers;
+use answers::LIMIT;
 use answers::refused;
 use answers::state_number;
 use columns::step_tables;
 use generator::State;
 use keystream::apply_keystream;
+use refusals::numbers;
 
 // The keystream over the whole buffer, in place, by the tables that are lent, and the state moved on by its length.
 fn advance(s: State, tables: &[[u64; 256]; 10], buffer: &mut [u8]) -> State
@@ -40,7 +41,7 @@ fn advancing_number(s: State, misfit: bool, refusal: u64, n: u64) -> u64
     if misfit {
         return refusal;
     }
-    if n > numbers::LIMIT - s.position {
+    if n > LIMIT - s.position {
         return numbers::REFUSED_NEW_POSITION_ABOVE;
     }
     numbers::ACCEPTED

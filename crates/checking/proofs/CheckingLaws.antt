@@ -14,10 +14,12 @@ use Rattle.generator.specs.Registers.{Registers, EighteenWords, registersOf, ne
 use Rattle.loading.specs.Loading.{Bytes, sizeMark, load, initialised, registersAt}
 use Rattle.loading.specs.Recovery.{loadedFrom, recoveredKey}
 use Rattle.loading.proofs.LoadingLaws.{loading-laws}
-use Rattle.answers.specs.Numbers.{accepted, refusedNoKeyLeads}
-use Rattle.answers.specs.Tests.{returned, WellFormed}
-use Rattle.answers.specs.Lines.{NoneApplies}
-use Rattle.answers.proofs.Lines.{Decides, DecideAll, first-line, none-applies, decide-append, refuses-exactly, writes-nothing, iv-length-decides, state-decides, key-target-decides}
+use Rattle.refusals.specs.Numbers.{accepted, refusedNoKeyLeads}
+use Rattle.refusals.specs.Tests.{returned}
+use Rattle.refusals.specs.Lines.{NoneApplies}
+use Rattle.refusals.proofs.Lines.{Decides, DecideAll, first-line, none-applies, decide-append, writes-nothing}
+use Rattle.answers.specs.Tests.{WellFormed}
+use Rattle.answers.proofs.Lines.{refuses-exactly, iv-length-decides, state-decides, key-target-decides}
 use Rattle.opening.specs.Opening.{Leads}
 use Rattle.opening.proofs.Opened.{key-of-size, key-and-iv}
 use Rattle.opening.proofs.OpeningLaws.{opening-laws}

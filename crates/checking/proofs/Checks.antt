@@ -15,12 +15,14 @@ use Rattle.generator.specs.Registers.{Registers, registersOf, withRegisters}
 use Rattle.loading.specs.Loading.{load}
 use Rattle.loading.specs.Recovery.{recoveredKey}
 use Rattle.loading.proofs.LoadingLaws.{loading-laws}
+use Rattle.refusals.specs.Tests.{Test, returned}
+use Rattle.refusals.specs.Numbers.{accepted, refusedIvLength, refusedKeyTargetLength, refusedNoKeyLeads}
 use Rattle.answers.specs.declared.Answer.{Answer}
-use Rattle.answers.specs.Tests.{Test, ivLengthTest, sizeMarkTest, positionTest, keyTargetTest, stateTests, returned, WellFormed}
-use Rattle.answers.specs.Numbers.{accepted, refusedIvLength, refusedKeyTargetLength, refusedNoKeyLeads}
+use Rattle.answers.specs.Tests.{ivLengthTest, sizeMarkTest, positionTest, keyTargetTest, stateTests, WellFormed}
 use Rattle.checking.specs.Checking.{loadedOf, keyOf, sameWords, sameRegisters, loadsAgain, noKeyLeadsTest, testsBefore10, checkingTests, checked, checkedTarget}
 use Rattle.opening.proofs.Opened.{key-of-size, key-le}
-use Rattle.answers.proofs.Tests.{is-one-of, returned-first, returned-rest, returned-none, answer-refused, answer-accepted, written-refused, written-accepted}
+use Rattle.refusals.proofs.Tests.{is-one-of, returned-first, returned-rest, returned-none, written-refused, written-accepted}
+use Rattle.answers.proofs.Tests.{answer-refused, answer-accepted}
 
 -- ---- the tests that ask nothing of the registers
 

@@ -8,10 +8,12 @@ use Rattle.generator.specs.declared.State.{State}
 use Rattle.generator.specs.Registers.{Registers, registersOf}
 use Rattle.loading.specs.Loading.{load}
 use Rattle.loading.specs.Recovery.{loadedFrom, recoveredKey}
+use Rattle.refusals.specs.Numbers.{refusedNoKeyLeads}
+use Rattle.refusals.specs.Tests.{Test, written}
+use Rattle.refusals.specs.Lines.{Line}
 use Rattle.answers.specs.declared.Answer.{Answer}
-use Rattle.answers.specs.Numbers.{refusedNoKeyLeads}
-use Rattle.answers.specs.Tests.{Test, ivLengthTest, keyTargetTest, stateTests, answerOf, written}
-use Rattle.answers.specs.Lines.{Line, ivLengthLine, keyTargetLine, stateLines}
+use Rattle.answers.specs.Tests.{ivLengthTest, keyTargetTest, stateTests, answerOf}
+use Rattle.answers.specs.Lines.{ivLengthLine, keyTargetLine, stateLines}
 use Rattle.opening.specs.Opening.{Leads}
 
 -- "The check walks back floor(p/8) + 1 ordinary steps and 32 of initialisation": to the registers that were loaded, if any key leads here

@@ -6,9 +6,10 @@ use lib.ListN.{length}
 use Rattle.generator.specs.declared.State.{State}
 use Rattle.generator.specs.Registers.{EighteenWords, registersOf}
 use Rattle.loading.specs.Loading.{Bytes}
-use Rattle.answers.specs.Numbers.{accepted, refusedNoKeyLeads}
+use Rattle.refusals.specs.Numbers.{accepted, refusedNoKeyLeads}
+use Rattle.refusals.specs.Lines.{NoneApplies}
 use Rattle.answers.specs.Tests.{WellFormed}
-use Rattle.answers.specs.Lines.{NoneApplies, RefusesExactly, WritesNothing}
+use Rattle.answers.specs.Lines.{RefusesExactly, WritesNothing}
 use Rattle.opening.specs.Opening.{Leads}
 use Rattle.checking.specs.Checking.{linesBefore10, checkingLines, checked, checkedTarget}
 

@@ -2,11 +2,10 @@
 ghost use mathlib.Core.Path.{_≡_};
 ghost use Rattle.generator.specs.Registers.{registersOf, withRegisters};
 ghost use Rattle.loading.specs.Loading.{load};
-ghost use Rattle.answers.specs.Tests.{returned};
+ghost use Rattle.refusals.specs.Tests.{returned};
 ghost use Rattle.checking.specs.Checking.{loadedOf, sameWords, sameRegisters, testsBefore10, checked, checkedTarget};
 ghost use Rattle.checking.specs.CheckingLaws.{ChecksExactly};
 use answers::Answer;
-use answers::numbers;
 use answers::refused;
 use answers::state_number;
 use cells::load_cells;
@@ -15,6 +14,7 @@ use galois::alpha_inverse_table;
 use generator::Kind;
 use generator::State;
 use recovering::recover_key;
+use refusals::numbers;
 use sboxes::pi_inverse_tables;
 use walks::backward;
 

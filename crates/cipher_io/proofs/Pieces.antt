@@ -9,8 +9,9 @@ use lib.Dec.{eqb}
 use lib.ListN.{length, take, drop, length-append, length-drop, take-append-drop}
 use lib.Seq.{length-take-le}
 use Rattle.generator.specs.declared.State.{State}
+use Rattle.refusals.specs.Numbers.{accepted}
 use Rattle.answers.specs.declared.Answer.{Answer}
-use Rattle.answers.specs.Numbers.{limit, accepted}
+use Rattle.answers.specs.Tests.{limit}
 use Rattle.applying.specs.Applying.{windowed, windowedBuffer}
 use Rattle.positions.proofs.PositionLaws.{position-laws}
 use Rattle.framing.specs.Framing.{keyLengthIn, started, afterPieces, joined}

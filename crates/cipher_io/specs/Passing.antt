@@ -5,8 +5,9 @@ use mathlib.Core.List.{List, [], _++_}
 use Prim.Native.Nat.{ℕ, _+_, _-_, _<_, _≤_, min}
 use lib.ListN.{length, take}
 use Rattle.generator.specs.declared.State.{State}
+use Rattle.refusals.specs.Numbers.{accepted}
 use Rattle.answers.specs.declared.Answer.{Answer}
-use Rattle.answers.specs.Numbers.{limit, accepted}
+use Rattle.answers.specs.Tests.{limit}
 use Rattle.applying.specs.Applying.{windowed, windowedBuffer}
 use Rattle.framing.specs.Framing.{keyLengthIn, started, afterPieces, joined}
 

@@ -5,11 +5,12 @@ mod stops;
 ghost use mathlib.Core.Path.{_≡_};
 ghost use Prim.Native.Nat.{_<_};
 ghost use lib.ListN.{length};
-ghost use Rattle.answers.specs.Numbers.{limit, accepted};
+ghost use Rattle.refusals.specs.Numbers.{accepted};
+ghost use Rattle.answers.specs.Tests.{limit};
 ghost use Rattle.applying.specs.Applying.{windowed, windowedBuffer};
 ghost use Rattle.cipher_io.specs.Passing.{goingOn, writingFailed, ReadOnce, HeaderRead, PiecePassed, DataPassed, Ran};
 use answers::Answer;
-use answers::numbers;
+use answers::LIMIT;
 use applying::window;
 use framing::LONGEST_HEADER;
 use framing::header_lacks;
@@ -20,6 +21,7 @@ use generator::State;
 use libc::STDERR_FILENO;
 use libc::STDIN_FILENO;
 use libc::STDOUT_FILENO;
+use refusals::numbers;
 
 // How many bytes were read, and why no more were.
 struct Got {
@@ -152,7 +154,7 @@ fn pass_data(s: State) -> Turn
 fn last_stop(position: u64, stop: u64) -> u64
     ensures { λ r. ⌜ (position < limit → r ≡ stop) ⌝ }
 {
-    if position < numbers::LIMIT || stop != stops::INPUT_ENDED {
+    if position < LIMIT || stop != stops::INPUT_ENDED {
         return stop;
     }
     let mut one = [0u8; 1];

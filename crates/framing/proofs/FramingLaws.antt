@@ -15,14 +15,16 @@ use Rattle.generator.proofs.Cells.{take-lt, drop-lt}
 use Rattle.masking.specs.Masking.{masked}
 use Rattle.masking.proofs.Masked.{masked-append, masked-ext}
 use Rattle.loading.specs.Loading.{Bytes}
+use Rattle.refusals.specs.Numbers.{accepted}
+use Rattle.refusals.specs.Tests.{returned}
+use Rattle.refusals.specs.Lines.{NumberOfFirst}
 use Rattle.answers.specs.declared.Answer.{Answer}
-use Rattle.answers.specs.Numbers.{limit, accepted}
-use Rattle.answers.specs.Tests.{windowTest, returned, WellFormed}
-use Rattle.answers.specs.Lines.{NumberOfFirst}
+use Rattle.answers.specs.Tests.{limit, windowTest, WellFormed}
 use Rattle.opening.specs.Opening.{opened, OpeningAccepts, Leads}
 use Rattle.positions.specs.Positions.{movedTo}
 use Rattle.applying.specs.Applying.{keystreamByte, keystreamByteOf, withKeystream, windowTests, windowed, windowedBuffer}
-use Rattle.answers.proofs.Tests.{answer-accepted, written-accepted}
+use Rattle.refusals.proofs.Tests.{written-accepted}
+use Rattle.answers.proofs.Tests.{answer-accepted}
 use Rattle.applying.proofs.Portions.{accepts}
 use Rattle.positions.proofs.PositionLaws.{position-laws}
 use Rattle.applying.proofs.ApplyingLaws.{applying-laws}
@@ -130,7 +132,7 @@ state-after input ps e room =
 -- ---- refusals
 
 refusal-line : (input : List ℕ) → (started input .number ≡ accepted → ⊥) → RefusedWith input 1 (ascii "refused 1\n") ⊎ RefusedWith input 2 (ascii "refused 2\n")
-refusal-line input refused = by (header input .first)
+refusal-line input refused = by (header input .in-order .first)
   where
     by : NumberOfFirst (started input .number) (headerLines input) → RefusedWith input 1 (ascii "refused 1\n") ⊎ RefusedWith input 2 (ascii "refused 2\n")
     by (inl key) = inl (key .1, ap refusalLine (key .1))

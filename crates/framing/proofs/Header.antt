@@ -10,11 +10,13 @@ use borrow.Author.Tests.{lt-ltb, le-ltb, ltb-true, ltb-false}
 use lib.Dec.{ltb}
 use lib.ListN.{length, take, drop, length-append, length-take, length-drop, take-append-drop, List·getD-append}
 use lib.Seq.{length-take-le, take-all, take-append-le, drop-append-le, getD-take, drop-drop, drop-cons}
-use Rattle.answers.specs.Numbers.{accepted, refusedKeyLength, refusedIvLength}
+use Rattle.refusals.specs.Numbers.{accepted, refusedKeyLength, refusedIvLength}
 use Rattle.answers.specs.Tests.{keyLengthTest, ivLengthTest}
 use Rattle.opening.specs.Opening.{blank, openedState, openingTests, opened}
-use Rattle.answers.specs.Lines.{NoneApplies, RefusesExactly}
-use Rattle.answers.proofs.Lines.{Decides, key-length-decides, iv-length-decides, refuses-exactly}
+use Rattle.refusals.specs.Lines.{NoneApplies}
+use Rattle.refusals.proofs.Lines.{Decides}
+use Rattle.answers.specs.Lines.{RefusesExactly}
+use Rattle.answers.proofs.Lines.{key-length-decides, iv-length-decides, refuses-exactly}
 use Rattle.framing.specs.Framing.{keyLengthIn, keyIn, ivIn, dataIn, lacking, started}
 use Rattle.framing.specs.FramingLaws.{headerLines}
 
@@ -136,7 +138,7 @@ module _ (input : List ℕ) where
   parts e = by (below-or-not n (33 + k))
     where
       none : NoneApplies (headerLines input)
-      none = header .accepts-only e
+      none = header .in-order .accepts-only e
 
       by : (n < 33 + k) ⊎ (33 + k ≤ n) → length (keyIn input) ∷ (keyIn input ++ (ivIn input ++ dataIn input)) ≡ input
       by (inl h) = absurd (none .1 .0 h)

@@ -9,7 +9,7 @@ use Rattle.galois.specs.Words.{at}
 use Rattle.generator.specs.declared.State.{State}
 use Rattle.masking.specs.Masking.{masked}
 use Rattle.answers.specs.declared.Answer.{Answer}
-use Rattle.answers.specs.Numbers.{limit}
+use Rattle.answers.specs.Tests.{limit}
 use Rattle.opening.specs.Opening.{opened}
 use Rattle.applying.specs.Applying.{keystreamByte, windowed, windowedBuffer}
 

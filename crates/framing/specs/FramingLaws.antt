@@ -6,10 +6,12 @@ use Prim.Native.Nat.{ℕ, _+_, _<_, _≤_}
 use lib.ListN.{length, take}
 use Rattle.text.specs.Text.{ascii}
 use Rattle.loading.specs.Loading.{Bytes}
-use Rattle.answers.specs.Numbers.{limit, accepted, refusedKeyLength, refusedIvLength}
+use Rattle.refusals.specs.Numbers.{accepted, refusedKeyLength, refusedIvLength}
+use Rattle.answers.specs.Tests.{limit}
 use Rattle.opening.specs.Opening.{blank}
 use Rattle.positions.specs.Positions.{movedTo}
-use Rattle.answers.specs.Lines.{Line, RefusesExactly}
+use Rattle.refusals.specs.Lines.{Line}
+use Rattle.answers.specs.Lines.{RefusesExactly}
 use Rattle.framing.specs.Framing.{keyLengthIn, keyIn, ivIn, dataIn, started, refusalLine, dataOut, piecesOut, afterPieces, joined}
 
 -- "Input too short for the key counts as 1, too short for the IV as 2", beside opening's own 1 for a key length

@@ -2,10 +2,10 @@
 ghost use mathlib.Core.Path.{_≡_};
 ghost use Prim.Native.Nat.{_+_, _-_, _<_, _≤_, min};
 ghost use lib.ListN.{length};
-ghost use Rattle.answers.specs.Numbers.{limit};
+ghost use Rattle.answers.specs.Tests.{limit};
 ghost use Rattle.framing.specs.Framing.{lacking, started, refusalLine};
 use answers::Answer;
-use answers::numbers;
+use answers::LIMIT;
 use generator::State;
 use opening::open;
 
@@ -74,8 +74,8 @@ pub fn room(s: State, len: usize) -> usize
     ensures { λ r. ⌜ r ≤ len ⌝ }
 {
     let p = s.position;
-    if p > numbers::LIMIT {
+    if p > LIMIT {
         return 0;
     }
-    least(len, (numbers::LIMIT - p) as usize)
+    least(len, (LIMIT - p) as usize)
 }

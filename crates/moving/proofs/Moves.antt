@@ -8,12 +8,14 @@ use borrow.Author.Tests.{lt-ltb, le-ltb}
 use lib.IntN.{ℤ, pos, negsuc, natAbs, _+ℤ_}
 use Rattle.generator.specs.declared.State.{State}
 use Rattle.moving.specs.declared.Span.{Span}
-use Rattle.answers.specs.Tests.{Test, newPositionAboveTest, newPositionBelowTest, stateTests, returned, WellFormed, newPosition}
-use Rattle.answers.specs.Numbers.{limit, accepted, refusedNewPositionAbove, refusedNewPositionBelow}
+use Rattle.refusals.specs.Tests.{Test, returned}
+use Rattle.refusals.specs.Numbers.{accepted, refusedNewPositionAbove, refusedNewPositionBelow}
+use Rattle.answers.specs.Tests.{limit, newPositionAboveTest, newPositionBelowTest, stateTests, WellFormed, newPosition}
 use Rattle.positions.specs.Positions.{movedTo}
 use Rattle.moving.specs.Moving.{movingTests, moved}
 use Rattle.moving.specs.Functions.{spanOf}
-use Rattle.answers.proofs.Tests.{returned-first, returned-rest, answer-refused, answer-accepted}
+use Rattle.refusals.proofs.Tests.{returned-first, returned-rest}
+use Rattle.answers.proofs.Tests.{answer-refused, answer-accepted}
 
 -- ---- the span of a distance
 

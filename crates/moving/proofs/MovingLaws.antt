@@ -7,10 +7,12 @@ use borrow.Author.Tests.{ltb-false}
 use lib.IntN.{ℤ, pos, negsuc, negℤ, _+ℤ_, +ℤ-negℤ-cancel}
 use Rattle.generator.specs.declared.State.{State}
 use Rattle.generator.specs.Registers.{EighteenWords, registersOf}
+use Rattle.refusals.specs.Numbers.{accepted}
+use Rattle.refusals.specs.Tests.{returned}
+use Rattle.refusals.proofs.Tests.{returned-none}
 use Rattle.answers.specs.declared.Answer.{Answer}
-use Rattle.answers.specs.Numbers.{limit, accepted}
-use Rattle.answers.specs.Tests.{sizeMarkTest, positionTest, newPosition, newPositionAboveTest, newPositionBelowTest, returned, WellFormed}
-use Rattle.answers.proofs.Tests.{returned-none, position-le}
+use Rattle.answers.specs.Tests.{limit, sizeMarkTest, positionTest, newPosition, newPositionAboveTest, newPositionBelowTest, WellFormed}
+use Rattle.answers.proofs.Tests.{position-le}
 use Rattle.answers.proofs.Lines.{refuses-exactly, state-decides, new-position-above-decides, new-position-below-decides}
 use Rattle.opening.specs.Opening.{Leads}
 use Rattle.positions.specs.Positions.{movedTo}

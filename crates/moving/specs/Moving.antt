@@ -2,9 +2,11 @@
 use mathlib.Core.List.{List, [], _∷_, _++_}
 use lib.IntN.{ℤ, natAbs}
 use Rattle.generator.specs.declared.State.{State}
+use Rattle.refusals.specs.Tests.{Test}
+use Rattle.refusals.specs.Lines.{Line}
 use Rattle.answers.specs.declared.Answer.{Answer}
-use Rattle.answers.specs.Tests.{Test, stateTests, newPosition, newPositionAboveTest, newPositionBelowTest, answerOf}
-use Rattle.answers.specs.Lines.{Line, stateLines, newPositionAboveLine, newPositionBelowLine}
+use Rattle.answers.specs.Tests.{stateTests, newPosition, newPositionAboveTest, newPositionBelowTest, answerOf}
+use Rattle.answers.specs.Lines.{stateLines, newPositionAboveLine, newPositionBelowLine}
 use Rattle.positions.specs.Positions.{movedTo}
 
 -- "moving 3, 4, 7, 8": as tests, and as lines of the table

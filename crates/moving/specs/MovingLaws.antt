@@ -6,7 +6,7 @@ use Prim.Native.Nat.{ℕ}
 use lib.IntN.{ℤ, pos, negℤ}
 use Rattle.generator.specs.declared.State.{State}
 use Rattle.generator.specs.Registers.{EighteenWords, registersOf}
-use Rattle.answers.specs.Numbers.{accepted}
+use Rattle.refusals.specs.Numbers.{accepted}
 use Rattle.answers.specs.Tests.{newPosition, WellFormed}
 use Rattle.answers.specs.Lines.{RefusesExactly}
 use Rattle.opening.specs.Opening.{Leads}

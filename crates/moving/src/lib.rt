@@ -3,11 +3,12 @@ ghost use mathlib.Core.Path.{_≡_};
 ghost use Rattle.moving.specs.Moving.{moved};
 ghost use Rattle.moving.specs.Functions.{spanOf};
 use answers::Answer;
-use answers::numbers;
+use answers::LIMIT;
 use answers::refused;
 use answers::state_number;
 use generator::State;
 use positions::move_to;
+use refusals::numbers;
 
 // A signed count as a direction and a number: count bytes on, or count + 1 bytes back.
 struct Span {
@@ -53,7 +54,7 @@ pub fn move_by(s: State, distance: i64) -> Answer
             state: t,
         };
     }
-    if n > numbers::LIMIT - p {
+    if n > LIMIT - p {
         return refused(numbers::REFUSED_NEW_POSITION_ABOVE, s);
     }
     let t = move_to(s, p + n);

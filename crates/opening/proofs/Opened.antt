@@ -10,10 +10,12 @@ use lib.ListN.{length}
 use Rattle.generator.specs.declared.State.{State}
 use Rattle.generator.specs.Registers.{withRegisters}
 use Rattle.loading.specs.Loading.{KeyAndIv, load, initialised, sizeMark, registersAt}
-use Rattle.answers.specs.Tests.{keyLengthTest, ivLengthTest, returned}
-use Rattle.answers.specs.Numbers.{accepted}
+use Rattle.refusals.specs.Tests.{returned}
+use Rattle.refusals.specs.Numbers.{accepted}
+use Rattle.answers.specs.Tests.{keyLengthTest, ivLengthTest}
 use Rattle.opening.specs.Opening.{blank, openedState, openingTests, opened, OpeningAccepts}
-use Rattle.answers.proofs.Tests.{one-of, is-one-of, returned-none, answer-accepted}
+use Rattle.refusals.proofs.Tests.{one-of, is-one-of, returned-none}
+use Rattle.answers.proofs.Tests.{answer-accepted}
 
 -- ---- the length of a key
 

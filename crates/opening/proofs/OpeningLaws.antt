@@ -5,9 +5,9 @@ use Prim.Native.Nat.{ℕ, _/_}
 use Rattle.generator.specs.declared.State.{State}
 use Rattle.loading.specs.Loading.{sizeMark}
 use Rattle.loading.proofs.LoadingLaws.{loading-laws, size-of}
-use Rattle.answers.specs.Numbers.{accepted}
+use Rattle.refusals.specs.Numbers.{accepted}
+use Rattle.refusals.proofs.Tests.{one-of}
 use Rattle.answers.specs.Tests.{WellFormed}
-use Rattle.answers.proofs.Tests.{one-of}
 use Rattle.answers.proofs.Lines.{refuses-exactly, key-length-decides, iv-length-decides}
 use Rattle.opening.specs.Opening.{blank, openedState, openingTests, openingLines, opened, OpeningAccepts, Leads}
 use Rattle.opening.specs.OpeningLaws.{OpeningLaws}

@@ -6,10 +6,12 @@ use lib.ListN.{replicate}
 use Rattle.generator.specs.declared.State.{State}
 use Rattle.generator.specs.Registers.{registersOf, stateOf}
 use Rattle.loading.specs.Loading.{Bytes, sizeMark, registersAt}
+use Rattle.refusals.specs.Numbers.{accepted}
+use Rattle.refusals.specs.Tests.{Test}
+use Rattle.refusals.specs.Lines.{Line}
 use Rattle.answers.specs.declared.Answer.{Answer}
-use Rattle.answers.specs.Numbers.{accepted}
-use Rattle.answers.specs.Tests.{Test, keyLengthTest, ivLengthTest, answerOf}
-use Rattle.answers.specs.Lines.{Line, keyLengthLine, ivLengthLine}
+use Rattle.answers.specs.Tests.{keyLengthTest, ivLengthTest, answerOf}
+use Rattle.answers.specs.Lines.{keyLengthLine, ivLengthLine}
 
 -- "the blank state (all cells, registers, position and size mark 0)"
 abbrev pub blank : State

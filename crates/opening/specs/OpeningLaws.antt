@@ -4,8 +4,9 @@ use mathlib.Core.List.{List, [], _∷_}
 use Prim.Native.Nat.{ℕ}
 use Rattle.generator.specs.declared.State.{State}
 use Rattle.loading.specs.Loading.{KeyAndIv, sizeMark, registersAt}
-use Rattle.answers.specs.Numbers.{accepted}
-use Rattle.answers.specs.Tests.{stateTests, returned, WellFormed}
+use Rattle.refusals.specs.Numbers.{accepted}
+use Rattle.refusals.specs.Tests.{returned}
+use Rattle.answers.specs.Tests.{stateTests, WellFormed}
 use Rattle.answers.specs.Lines.{RefusesExactly}
 use Rattle.opening.specs.Opening.{blank, openingLines, opened, OpeningAccepts, Leads}
 

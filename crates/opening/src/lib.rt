@@ -2,14 +2,14 @@
 ghost use mathlib.Core.Path.{_≡_};
 ghost use Rattle.generator.specs.Registers.{registersOf, withRegisters};
 ghost use Rattle.loading.specs.Loading.{initialised};
-ghost use Rattle.answers.specs.Tests.{returned};
+ghost use Rattle.refusals.specs.Tests.{returned};
 ghost use Rattle.opening.specs.Opening.{blank, openingTests, opened};
 use answers::Answer;
-use answers::numbers;
 use cells::load_cells;
 use columns::step_tables;
 use generator::Kind;
 use generator::State;
+use refusals::numbers;
 use walks::forward;
 
 // All of it 0.

@@ -9,9 +9,8 @@ use Rattle.generator.specs.declared.Kind.the-variants.{Ordinary}
 use Rattle.generator.specs.Registers.{Registers, EighteenWords, registersOf, stateOf, withRegisters, next, previous, walked}
 use Rattle.loading.specs.Loading.{load, initialised, registersAt}
 use Rattle.loading.proofs.LoadingLaws.{loading-laws}
-use Rattle.answers.specs.Numbers.{limit}
-use Rattle.answers.specs.Tests.{sizeMarkTest, positionTest, WellFormed}
-use Rattle.answers.proofs.Tests.{returned-none}
+use Rattle.refusals.proofs.Tests.{returned-none}
+use Rattle.answers.specs.Tests.{limit, sizeMarkTest, positionTest, WellFormed}
 use Rattle.opening.specs.Opening.{opened, OpeningAccepts, Leads}
 use Rattle.opening.proofs.Opened.{key-and-iv}
 use Rattle.opening.proofs.OpeningLaws.{opening-laws}

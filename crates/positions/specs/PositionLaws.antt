@@ -7,8 +7,7 @@ use lib.IntN.{ℤ, pos}
 use Rattle.generator.specs.declared.State.{State}
 use Rattle.generator.specs.Registers.{EighteenWords, registersOf}
 use Rattle.loading.specs.Loading.{registersAt}
-use Rattle.answers.specs.Numbers.{limit}
-use Rattle.answers.specs.Tests.{WellFormed}
+use Rattle.answers.specs.Tests.{limit, WellFormed}
 use Rattle.opening.specs.Opening.{opened, OpeningAccepts, Leads}
 use Rattle.positions.specs.Positions.{movedTo}
 

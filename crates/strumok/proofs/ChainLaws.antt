@@ -6,8 +6,8 @@ use native.Mathlib.Omega.{arith}
 use lib.IntN.{ℤ, pos, _+ℤ_, +ℤ-idl, +ℤ-idr, +ℤ-assoc}
 use lib.ListN.{length, drop}
 use Rattle.generator.specs.declared.State.{State}
+use Rattle.refusals.specs.Numbers.{accepted}
 use Rattle.answers.specs.declared.Answer.{Answer}
-use Rattle.answers.specs.Numbers.{accepted}
 use Rattle.answers.specs.Tests.{WellFormed}
 use Rattle.opening.specs.Opening.{blank, opened, OpeningAccepts, Leads}
 use Rattle.opening.proofs.OpeningLaws.{opening-laws}

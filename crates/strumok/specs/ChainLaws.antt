@@ -7,7 +7,7 @@ use lib.ListN.{length, take, drop}
 use Rattle.generator.specs.declared.State.{State}
 use Rattle.generator.specs.declared.Kind.the-variants.{Ordinary}
 use Rattle.generator.specs.Functions.{nextIn}
-use Rattle.answers.specs.Numbers.{accepted}
+use Rattle.refusals.specs.Numbers.{accepted}
 use Rattle.answers.specs.Tests.{WellFormed}
 use Rattle.opening.specs.Opening.{blank, opened, OpeningAccepts, Leads}
 use Rattle.moving.specs.Moving.{moved}

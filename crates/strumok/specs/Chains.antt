@@ -5,8 +5,8 @@ use Prim.Native.Nat.{ℕ}
 use lib.IntN.{ℤ, pos, _+ℤ_}
 use lib.ListN.{length}
 use Rattle.generator.specs.declared.State.{State}
+use Rattle.refusals.specs.Numbers.{accepted}
 use Rattle.answers.specs.declared.Answer.{Answer}
-use Rattle.answers.specs.Numbers.{accepted}
 use Rattle.opening.specs.Opening.{opened, OpeningAccepts}
 use Rattle.moving.specs.Moving.{moved}
 use Rattle.applying.specs.Applying.{applied, windowed}

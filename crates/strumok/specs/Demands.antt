@@ -8,7 +8,7 @@ use lib.ListN.{length, drop}
 use Rattle.generator.specs.declared.State.{State}
 use Rattle.generator.specs.Registers.{registersOf}
 use Rattle.loading.specs.Loading.{sizeMark, registersAt}
-use Rattle.answers.specs.Numbers.{accepted}
+use Rattle.refusals.specs.Numbers.{accepted}
 use Rattle.opening.specs.OpeningLaws.{OpeningRefusals, OpeningsDiffer}
 use Rattle.moving.specs.MovingLaws.{MovingRefusals}
 use Rattle.applying.specs.Applying.{applied, appliedTarget, windowed, windowedBuffer, Ciphered}

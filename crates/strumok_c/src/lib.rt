@@ -3,7 +3,7 @@ ghost use mathlib.Core.Path.{_≡_};
 ghost use Rattle.generator.specs.declared.Kind.the-variants.{Ordinary};
 ghost use Rattle.substitution.specs.Substitution.{stepTables};
 ghost use Rattle.generator.specs.Functions.{nextIn};
-ghost use Rattle.answers.specs.Numbers.{accepted};
+ghost use Rattle.refusals.specs.Numbers.{accepted};
 ghost use Rattle.opening.specs.Opening.{opened};
 ghost use Rattle.moving.specs.Moving.{moved};
 ghost use Rattle.applying.specs.Applying.{applied, appliedTarget, windowed, windowedBuffer};

@@ -8,8 +8,8 @@ use lib.Seq.{take-all, take-at, drop-at, getD-drop}
 use Rattle.galois.specs.Words.{at}
 use Rattle.generator.specs.declared.State.{State}
 use Rattle.generator.proofs.Cells.{oneByOne, oneByOne-is}
+use Rattle.refusals.specs.Numbers.{accepted}
 use Rattle.answers.specs.declared.Answer.{Answer}
-use Rattle.answers.specs.Numbers.{accepted}
 use Rattle.twenty_words.specs.TwentyWords.{wordsOf, stateIn, TwentyWordsLaws}
 
 -- what the code of `state_in` makes

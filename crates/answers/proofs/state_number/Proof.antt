@@ -1,8 +1,8 @@
 -- `answers::state_number` meets its contract.
 use mathlib.Core.Path.{sym}
 use borrow.Author.Tests.{lt-ltb, le-ltb}
-use Rattle.answers.specs.Numbers.{limit}
-use Rattle.answers.proofs.Tests.{one-of, none-of}
+use Rattle.refusals.proofs.Tests.{one-of, none-of}
+use Rattle.answers.specs.Tests.{limit}
 use Rattle.answers.proofs.state_number.Statement.{statement}
 use Rattle.answers.proofs.state_number.Tie as tie
 

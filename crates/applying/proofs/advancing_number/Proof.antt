@@ -2,7 +2,8 @@
 use mathlib.Core.Path.{sym, _∙_}
 use native.Mathlib.Omega.{arith}
 use borrow.Author.Needs.{needs}
-use Rattle.answers.specs.Tests.{Test, WellFormed}
+use Rattle.refusals.specs.Tests.{Test}
+use Rattle.answers.specs.Tests.{WellFormed}
 use Rattle.answers.proofs.Tests.{position-le}
 use Rattle.applying.proofs.Portions.{ill-formed, misfit, too-far, in-range}
 use Rattle.applying.proofs.advancing_number.Statement.{statement}

@@ -2,10 +2,11 @@
 use mathlib.Core.Path.{_≡_, sym, ap, _∙_}
 use borrow.Author.Needs.{needs}
 use lib.ListN.{length}
-use Rattle.answers.specs.Numbers.{accepted}
-use Rattle.answers.specs.Tests.{returned}
+use Rattle.refusals.specs.Numbers.{accepted}
+use Rattle.refusals.specs.Tests.{returned}
 use Rattle.applying.specs.Applying.{applyingTests}
-use Rattle.answers.proofs.Tests.{answer-refused, written-refused}
+use Rattle.refusals.proofs.Tests.{written-refused}
+use Rattle.answers.proofs.Tests.{answer-refused}
 use Rattle.applying.proofs.Portions.{target-length, front, copied-length, portion-room, portion-accepted}
 use Rattle.applying.proofs.apply_with.Statement.{statement}
 use Rattle.applying.proofs.apply_with.Tie as tie

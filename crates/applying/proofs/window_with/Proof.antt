@@ -4,10 +4,11 @@ use mathlib.Core.Bool.{Bool}
 use native.Mathlib.Omega.{arith}
 use borrow.Author.Needs.{needs}
 use lib.ListN.{length}
-use Rattle.answers.specs.Numbers.{accepted, refusedWindowPastEnd}
-use Rattle.answers.specs.Tests.{returned}
+use Rattle.refusals.specs.Numbers.{accepted, refusedWindowPastEnd}
+use Rattle.refusals.specs.Tests.{returned}
 use Rattle.applying.specs.Applying.{advancingTests, windowTests}
-use Rattle.answers.proofs.Tests.{answer-refused, written-refused}
+use Rattle.refusals.proofs.Tests.{written-refused}
+use Rattle.answers.proofs.Tests.{answer-refused}
 use Rattle.applying.proofs.Portions.{window-end, window-room, window-accepted}
 use Rattle.applying.proofs.window_with.Statement.{statement}
 use Rattle.applying.proofs.window_with.Tie as tie

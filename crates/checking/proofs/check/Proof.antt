@@ -4,8 +4,8 @@ use mathlib.Core.Path.{_≡_, sym, _∙_}
 use native.Mathlib.Omega.{arith}
 use borrow.Author.Needs.{needs}
 use lib.ListN.{length}
-use Rattle.answers.specs.Numbers.{accepted, refusedNoKeyLeads}
-use Rattle.answers.specs.Tests.{returned}
+use Rattle.refusals.specs.Numbers.{accepted, refusedNoKeyLeads}
+use Rattle.refusals.specs.Tests.{returned}
 use Rattle.generator.proofs.Owned.{owned-words}
 use Rattle.loading.proofs.Owned.{owned-bytes}
 use Rattle.checking.specs.Checking.{testsBefore10}

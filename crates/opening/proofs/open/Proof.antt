@@ -3,8 +3,8 @@ use mathlib.Core.Path.{_≡_, refl, sym, ap, _∙_}
 use native.Mathlib.Omega.{arith}
 use borrow.Author.Needs.{needs}
 use Rattle.generator.specs.declared.State.{State}
-use Rattle.answers.specs.Numbers.{accepted}
-use Rattle.answers.specs.Tests.{returned}
+use Rattle.refusals.specs.Numbers.{accepted}
+use Rattle.refusals.specs.Tests.{returned}
 use Rattle.opening.specs.Opening.{blank, openedState, openingTests}
 use Rattle.answers.proofs.Tests.{answer-refused}
 use Rattle.opening.proofs.Opened.{key-short, opens}

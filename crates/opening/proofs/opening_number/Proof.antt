@@ -1,7 +1,7 @@
 -- `opening::opening_number` meets its contract.
 use mathlib.Core.Path.{sym}
 use borrow.Author.Tests.{eq-eqb, ne-eqb}
-use Rattle.answers.proofs.Tests.{one-of, none-of}
+use Rattle.refusals.proofs.Tests.{one-of, none-of}
 use Rattle.opening.proofs.opening_number.Statement.{statement}
 use Rattle.opening.proofs.opening_number.Tie as tie
 

@@ -1,7 +1,4 @@
-// The last position, and the numbers that a call answers with; the same names as in specs/Numbers.antt and in the header for C.
-
-// The last byte position.
-pub const LIMIT: u64 = 16777216;
+// The numbers that a call answers with; the same names as in specs/Numbers.antt and, up to 10, in the header for C.
 
 // Not refused.
 pub const ACCEPTED: u64 = 0;
@@ -35,3 +32,12 @@ pub const REFUSED_KEY_TARGET_LENGTH: u64 = 9;
 
 // No key of that size with that IV leads to this state.
 pub const REFUSED_NO_KEY_LEADS: u64 = 10;
+
+// The text is none of the grammar from this place on.
+pub const REFUSED_NOT_CSV: u64 = 11;
+
+// A row's field count differs from the first row's.
+pub const REFUSED_RAGGED_ROW: u64 = 12;
+
+// A row has more than 32 fields.
+pub const REFUSED_TOO_MANY_FIELDS: u64 = 13;

@@ -1,0 +1,4 @@
+-- The proofs of what is returned.
+pub mod NumberLaws
+pub mod Tests
+pub mod Lines

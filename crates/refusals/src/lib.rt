@@ -1,0 +1,2 @@
+// The numbers that a call answers with.
+pub mod numbers;
