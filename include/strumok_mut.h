@@ -12,7 +12,7 @@
 #error "strumok_mut.h: the library is for x86-64, where size_t has 64 bits"
 #endif
 
-/* For the compiler to warn: of a result that is ignored, and of a null argument. The same in both headers, strumok.h and strumok_mut.h. */
+/* For the compiler to warn: of a result that is ignored, and of a null argument. The same in strumok.h, strumok_mut.h and orders.h. */
 #ifndef STRUMOK_MUST_USE
 #if (defined __cplusplus && __cplusplus >= 201703L) || (defined __STDC_VERSION__ && __STDC_VERSION__ >= 202311L)
 #define STRUMOK_MUST_USE [[nodiscard]]
