@@ -1,7 +1,7 @@
-//! Finds the proved library, libstrumok_c.a, and has it linked.
+//! Finds the proved libraries, libstrumok_c.a and liborders_c.a, and has them linked.
 //!
-//! It is looked for in the directory that the environment variable STRUMOK_LIB_DIR names, or else
-//! in target/staticlib beside this package's directory.
+//! They are looked for in the directory that the environment variable STRUMOK_LIB_DIR names, or
+//! else in target/staticlib beside this package's directory.
 
 use std::env;
 use std::path::{Path, PathBuf};
@@ -14,16 +14,18 @@ fn main() {
         Some(directory) => PathBuf::from(directory),
         None => Path::new(&package).join("../target/staticlib"),
     };
-    let library = directory.join("libstrumok_c.a");
-    println!("cargo:rerun-if-changed={}", library.display());
-    if !library.is_file() {
-        eprintln!(
-            "{} is missing. Make it with `rt staticlib strumok_c`, \
-             or set STRUMOK_LIB_DIR to the directory that holds libstrumok_c.a.",
-            library.display()
-        );
-        exit(1);
-    }
     println!("cargo:rustc-link-search=native={}", directory.display());
-    println!("cargo:rustc-link-lib=static=strumok_c");
+    for name in ["strumok_c", "orders_c"] {
+        let library = directory.join(format!("lib{name}.a"));
+        println!("cargo:rerun-if-changed={}", library.display());
+        if !library.is_file() {
+            eprintln!(
+                "{} is missing. Make it with `rt staticlib {name}`, \
+                 or set STRUMOK_LIB_DIR to the directory that holds lib{name}.a.",
+                library.display()
+            );
+            exit(1);
+        }
+        println!("cargo:rustc-link-lib=static={name}");
+    }
 }

@@ -2,7 +2,7 @@
 //!
 //! A [`State`] is opened from a key and an IV, then applied to portions, worked over windows of a
 //! buffer, moved forward or back, or checked against an IV. Every call is one call of the proved
-//! library; this crate adds nothing but Rust's types.
+//! library; this crate adds nothing but Rust's types. The module [`orders`] reads order files.
 //!
 //! ```
 //! use strumok::State;
@@ -30,6 +30,8 @@
 
 #![deny(unsafe_op_in_unsafe_fn)]
 #![warn(missing_docs)]
+
+pub mod orders;
 
 use std::fmt;
 
