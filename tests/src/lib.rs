@@ -1,6 +1,7 @@
 //! Another implementation of the stream cipher Strumok (DSTU 8845:2019), written from the cipher's
 //! description alone and independent of the proved library, which the tests run beside it. Both
-//! have the π tables from one file, and share nothing else.
+//! have the π tables from one file, and share nothing else. And another reader of order files,
+//! written from RFC 4180 and the request.
 //!
 //! - [`field`]: the two fields, α and T, by their rules, and the tables made from them;
 //! - [`cipher`]: registers, steps forward and back, loading, keystream words;
@@ -8,12 +9,16 @@
 //! - [`calls`]: the five calls with their refusals, and what the cipher program must write;
 //! - [`vectors`]: the published vectors, and the list that the program `vectors` prints;
 //! - [`edges`]: the lists of edges that the programs `edges` and `checks` print;
+//! - [`grammar`]: the grammar of order files, and what a text is by it, for short texts;
+//! - [`csv`]: the table of an order file or its first fault, by the definitions and in one pass;
 //! - [`random`]: the seeded generator that makes the tests' inputs.
 
 pub mod calls;
 pub mod cipher;
+pub mod csv;
 pub mod edges;
 pub mod field;
+pub mod grammar;
 pub mod kalyna;
 pub mod random;
 pub mod vectors;
