@@ -5,13 +5,13 @@
 test:
 	@tools/test
 
-# The demonstration: an order file enciphered, opened from the middle, a state stored and taken up, a damaged state refused.
+# The demonstration: an order file enciphered, opened from the middle, a state stored and taken up, a damaged state refused, the file's rows read.
 run:
 	@echo 'proving and building, which takes some minutes the first time' >&2
 	@tools/build-rust --example demonstration
 	@target/cargo/release/examples/demonstration
 
-# The proved library beside the cipher in C of bench/: instructions and times, as a table, and the bars that are set for them.
+# The proved libraries beside the cipher and the reader in C of bench/: instructions and times, as tables, and the bars that are set for them.
 bench:
 	@tools/bench
 

@@ -1,12 +1,14 @@
 //! The demonstration, run from the root of the repository: an order file is enciphered, a row in
-//! its middle deciphered alone, a state stored and taken up again, a damaged one refused. Every
-//! step is verified; where one is not as it says, the program fails.
+//! its middle deciphered alone, a state stored and taken up again, a damaged one refused, and the
+//! rows of the opened file read. Every step is verified; where one is not as it says, the program
+//! fails.
 
+use std::borrow::Cow;
 use std::error::Error;
 use std::fs;
 use std::process::ExitCode;
 
-use strumok::State;
+use strumok::{orders, State};
 
 /// Fixed, and published here: for the demonstration alone.
 const KEY: [u8; 32] = *b"a demonstration key, for no use!";
@@ -44,6 +46,7 @@ fn run() -> Result<(), Box<dyn Error>> {
     let stored = store(&state)?;
     take_up(&plain, &enciphered, &stored)?;
     refuse(&stored)?;
+    read_rows(&plain, &enciphered)?;
     println!("\nEvery step was verified.");
     Ok(())
 }
@@ -81,7 +84,10 @@ fn decipher_row(
     enciphered: &[u8],
     mut state: State,
 ) -> Result<State, Box<dyn Error>> {
-    let (begin, end) = row(plain, ROW).ok_or("the order file has too few rows")?;
+    let row = orders::read(plain)?.rows().nth(ROW);
+    let row = row.ok_or("the order file has too few rows")?;
+    let last = row[row.len() - 1];
+    let (begin, end) = (row[0].start(), last.start() + last.part().len());
     let from = state.position();
     println!("\n2. Row {ROW} is deciphered alone: the state moves from byte {from} to {begin}.");
     state.move_by(begin as i64 - from as i64)?;
@@ -154,6 +160,50 @@ fn refuse(stored: &[u8]) -> Result<(), Box<dyn Error>> {
     Ok(())
 }
 
+/// The file deciphered whole, and its rows read where they stand; cut inside quotes it is refused.
+fn read_rows(plain: &[u8], enciphered: &[u8]) -> Result<(), Box<dyn Error>> {
+    println!("\n7. The file is deciphered whole, and its rows are read where they stand.");
+    let mut opened = enciphered.to_vec();
+    let count = opened.len();
+    State::opened(&KEY, &IV)?.window(&mut opened, 0, count)?;
+    expect(opened == plain, "the file is what was enciphered")?;
+
+    let table = orders::read(&opened)?;
+    let (rows, columns) = (table.row_count(), table.column_count());
+    println!("  {rows} rows of {columns} fields; their contents:");
+    let mut again = Vec::new();
+    for row in table.rows() {
+        expect(row.len() == columns, "a row has as many fields as columns")?;
+        let contents: Vec<String> = row.iter().map(|field| text(&field.content())).collect();
+        let padded: String = contents.iter().map(|text| format!("{text:<16}")).collect();
+        println!("    {}", padded.trim_end());
+        let parts: Vec<&[u8]> = row.iter().map(|field| field.part()).collect();
+        again.extend(parts.join(&b','));
+        again.extend(b"\r\n");
+    }
+    expect(
+        again == plain,
+        "the fields with commas and line ends between them are the file",
+    )?;
+
+    let doubled = |field: &orders::Field<'_>| matches!(field.content(), Cow::Owned(_));
+    let quoted = table.fields().find(doubled);
+    let quoted = quoted.ok_or("the order file has no field with doubled quotes")?;
+    println!("  A field with doubled quotes, and its content:");
+    println!("    {}", text(quoted.part()));
+    println!("    {}", text(&quoted.content()));
+    let cut = quoted.start() + quoted.part().len() - 1;
+    let refusal = orders::read(&opened[..cut]).err();
+    let refusal = refusal.ok_or("not so: a file that is cut inside quotes is refused")?;
+    expect(
+        (refusal.number(), refusal.place()) == (11, cut),
+        "it is refused with 11, at its end",
+    )?;
+    println!("  The file is cut before that field's last quote. The reader refuses it.");
+    println!("  answer {refusal}");
+    Ok(())
+}
+
 /// What the check answers, which must be 10 and leave the key target as it was.
 fn refused_with_10(state: &State, iv: &[u8]) -> Result<String, Box<dyn Error>> {
     let mut key = [0xA5; 32];
@@ -173,18 +223,6 @@ fn expect(holds: bool, what: &str) -> Result<(), String> {
         true => Ok(()),
         false => Err(format!("not so: {what}")),
     }
-}
-
-/// Where a row begins and ends, its line end left out.
-fn row(text: &[u8], number: usize) -> Option<(usize, usize)> {
-    let line = text.split(|byte| *byte == b'\n').nth(number)?;
-    let row = line.strip_suffix(b"\r")?;
-    let begin: usize = text
-        .split(|byte| *byte == b'\n')
-        .take(number)
-        .map(|line| line.len() + 1)
-        .sum();
-    Some((begin, begin + row.len()))
 }
 
 /// The state of twenty words, least significant byte first.
