@@ -1,5 +1,6 @@
 /*
- * The benchmark: the proved library and the cipher in C, on the same input. tools/bench calls it, and makes one table of what it prints.
+ * The benchmark of the cipher: the proved library and the cipher in C, on the same input. tools/bench calls it, and makes one table of what
+ * it prints.
  *
  *   bench check PI VECTORS       tries the cipher in C by the published vectors and beside the proved library; status 1 where they differ
  *   bench time PI                runs each row of the table by both, in turn, for some seconds, and prints the best times
@@ -9,6 +10,7 @@
  */
 #define _POSIX_C_SOURCE 199309L
 
+#include "bench.h"
 #include "strumok.h"
 #include "strumok_in_c.h"
 
@@ -16,7 +18,6 @@
 #include <stdio.h>
 #include <stdlib.h>
 #include <string.h>
-#include <time.h>
 
 enum { WORDS = STRUMOK_STATE_WORDS, IV = 32, LONGEST = 64, LENGTH = 80, MIB = 1048576, ROW_SECONDS = 3 };
 
@@ -54,28 +55,6 @@ static const struct cipher anew = {strumok_open, strumok_apply, strumok_window, 
 static const struct cipher in_c = {strumok_in_c_open, strumok_in_c_apply, window_in_c, strumok_in_c_move, strumok_in_c_check};
 
 static uint8_t key[LENGTH], iv[LENGTH], source[MIB], target[MIB], other_target[MIB];
-
-static void stop(const char *what)
-{
-    fprintf(stderr, "bench: %s\n", what);
-    exit(1);
-}
-
-/* Numbers that look random, the same at each run. */
-static uint64_t random_word(void)
-{
-    static uint64_t word = UINT64_C(0x9E3779B97F4A7C15);
-
-    word ^= word << 13;
-    word ^= word >> 7;
-    word ^= word << 17;
-    return word;
-}
-
-static size_t random_below(size_t bound)
-{
-    return (size_t)(random_word() >> 16) % bound;
-}
 
 static void random_bytes(uint8_t *bytes, size_t length)
 {
@@ -425,17 +404,16 @@ static int64_t start_of(const struct row *row, size_t calls)
 /* The processor time of so many calls, in seconds. The state is opened and moved to the start of the row before. */
 static double run(const struct cipher *cipher, const struct row *row, size_t calls)
 {
-    struct timespec begin, end;
     uint64_t state[WORDS];
 
     if (cipher->open(key, LONGEST, iv, IV, state) != 0 || cipher->move(state, start_of(row, calls)) != 0)
         stop("a row was not begun");
-    clock_gettime(CLOCK_PROCESS_CPUTIME_ID, &begin);
+    const double begin = processor_time();
     const uint64_t numbers = measured(cipher, row, calls, state);
-    clock_gettime(CLOCK_PROCESS_CPUTIME_ID, &end);
+    const double end = processor_time();
     if (numbers != 0)
         stop("a call of a row was refused");
-    return (double)(end.tv_sec - begin.tv_sec) + 1e-9 * (double)(end.tv_nsec - begin.tv_nsec);
+    return end - begin;
 }
 
 /* A line for each row, with tabs between: name, label, the best seconds of a call of the proved library and of the cipher in C. */
