@@ -1,0 +1,2 @@
+-- The proof of what is shown of the reader.
+pub mod Reader

@@ -1,0 +1,2 @@
+-- What is shown of the reader of order files.
+pub mod Reader

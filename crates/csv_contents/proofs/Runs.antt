@@ -1,0 +1,101 @@
+-- What follows an opening quote, byte by byte.
+use Prim.Native.Nat.{ℕ, suc, _+_, _-_, _<_, _≤_}
+use mathlib.Core.Path.{_≡_, refl, sym, ap, _∙_}
+use mathlib.Core.Logic.{inl}
+use mathlib.Core.Bool.{Bool, true, false, true≢false, cond}
+use mathlib.Core.List.{List, [], _∷_, _++_, append-assoc}
+use native.Mathlib.Omega.{arith}
+use native.Mathlib.Numerals.{add-one}
+use lib.Dec.{ltb}
+use lib.ListN.{length, take, drop, getD, drop-of-length-le, length-drop}
+use lib.Seq.{drop-cons, take-suc, getD-drop}
+use borrow.Author.Tests.{eq-eqb, ne-eqb, ltb-true, ltb-false}
+use Rattle.csv_fields.specs.Ends.{isInside, quotedEnd}
+use Rattle.csv_fields.proofs.Bytes.{inside-no}
+use Rattle.csv_fields.proofs.Runs.{inside-on}
+use Rattle.csv_contents.specs.Contents.{unquoted}
+use Rattle.csv_contents.specs.Measures.{runStop}
+
+short : (s : List ℕ) → length s ≤ 1 → unquoted s ≡ []
+unfolding unquoted
+short [] h = refl
+short (b ∷ []) h = refl
+short (b ∷ (c ∷ s)) h = absurd (omega arith)
+
+module _ (t : List ℕ) (i : ℕ) where
+  -- the last byte, which is the closing quote
+  pub unquoted-last : length t ≤ i + 1 → unquoted (drop i t) ≡ []
+  unquoted-last h = short (drop i t) (omega (arith, length-drop i t))
+
+  module _ (h : i + 1 < length t) where
+    two : drop i t ≡ getD t i 0 ∷ (getD t (i + 1) 0 ∷ drop (i + 1 + 1) t)
+    two =
+        let k : i < length t = omega arith in
+        let e : suc i < length t = omega arith in
+        let one : i + 1 ≡ suc i = add-one i in
+        drop-cons t i 0 k ∙ ap (λ (x : List ℕ). getD t i 0 ∷ x) (drop-cons t (suc i) 0 e ∙ (λ j. getD t (sym one j) 0 ∷ drop (sym (add-one (i + 1) ∙ ap suc one) j) t))
+
+    next : getD t (i + 1) 0 ∷ drop (i + 1 + 1) t ≡ drop (i + 1) t
+    next = sym (drop-cons t (i + 1) 0 h ∙ ap (λ (n : ℕ). getD t (i + 1) 0 ∷ drop n t) (sym (add-one (i + 1))))
+
+    pub unquoted-on : (getD t i 0 ≡ 34 → ⊥) → unquoted (drop i t) ≡ getD t i 0 ∷ unquoted (drop (i + 1) t)
+    unfolding unquoted
+    unquoted-on n = ap unquoted two ∙ (rw (ne-eqb (getD t i 0) 34 n) (ap (λ (x : List ℕ). getD t i 0 ∷ unquoted x) next))
+
+    pub unquoted-pair : getD t i 0 ≡ 34 → unquoted (drop i t) ≡ 34 ∷ unquoted (drop (i + 1 + 1) t)
+    unfolding unquoted
+    unquoted-pair e = ap unquoted two ∙ rw (eq-eqb (getD t i 0) 34 e)
+
+-- a byte that is no quote is not the last one, where that is a quote
+pub before-quote : (t : List ℕ) (i : ℕ) → i < length t → getD t (length t - 1) 0 ≡ 34 → (getD t i 0 ≡ 34 → ⊥) → i + 1 < length t
+before-quote t i h l n = by (ltb (i + 1) (length t)) refl
+  where
+    by : (x : Bool) → ltb (i + 1) (length t) ≡ x → i + 1 < length t
+    by true q = ltb-true (i + 1) (length t) q
+    by false q =
+        let m = ltb-false (i + 1) (length t) q in
+        let k : length t - 1 ≡ i = omega arith in
+        absurd (n (rw k at l))
+
+pub inside-no-quote : (b : ℕ) → isInside b ≡ true → b ≡ 34 → ⊥
+inside-no-quote b e q = true≢false (sym e ∙ inside-no b (inl q))
+
+-- one byte more inside quotes
+pub inside-more : (t : List ℕ) (i : ℕ) → i < length t → getD t (length t - 1) 0 ≡ 34 → isInside (getD t i 0) ≡ true →
+    (i + 1 < length t) × (quotedEnd false i (drop i t) ≡ quotedEnd false (i + 1) (drop (i + 1) t)) × (length (unquoted (drop i t)) ≡ 1 + length (unquoted (drop (i + 1) t)))
+inside-more t i h l e =
+    let n = inside-no-quote (getD t i 0) e in
+    let k = before-quote t i h l n in
+    (k, inside-on t i h e, ap length (unquoted-on t i k n) ∙ omega arith)
+
+-- the bytes up to a place, and one more
+pub run-more : (t : List ℕ) (i q : ℕ) → i ≤ q → q + 1 < length t → (getD t q 0 ≡ 34 → ⊥) → unquoted (drop i t) ≡ take (q - i) (drop i t) ++ unquoted (drop q t) →
+    unquoted (drop i t) ≡ take (q + 1 - i) (drop i t) ++ unquoted (drop (q + 1) t)
+run-more t i q h l n e =
+    let k : q + 1 - i ≡ suc (q - i) = omega arith in
+    let s : q - i < length (drop i t) = omega (arith, length-drop i t) in
+    let m : i + (q - i) ≡ q = omega arith in
+    let b : getD (drop i t) (q - i) 0 ≡ getD t q 0 = getD-drop i t (q - i) 0 ∙ ap (λ (x : ℕ). getD t x 0) m in
+    e ∙ (ap (λ (x : List ℕ). take (q - i) (drop i t) ++ x) (unquoted-on t q l n) ∙ sym (rw (k, take-suc (drop i t) (q - i) 0 s, b) (append-assoc (take (q - i) (drop i t)) (getD t q 0 ∷ []) (unquoted (drop (q + 1) t)))))
+
+pub run-none : (t : List ℕ) (i : ℕ) → unquoted (drop i t) ≡ take (i - i) (drop i t) ++ unquoted (drop i t)
+run-none t i = let n : i - i ≡ 0 = omega arith in rw n
+
+-- the bytes up to a quote, with it but for the closing one, and what follows
+pub quote-run : (t : List ℕ) (i q k : ℕ) → i ≤ q → q < length t → getD t q 0 ≡ 34 → unquoted (drop i t) ≡ take (q - i) (drop i t) ++ unquoted (drop q t) → k ≡ runStop q (length t) →
+    (i ≤ k) × (k ≤ length t) × (unquoted (drop i t) ≡ take (k - i) (drop i t) ++ unquoted (drop (q + 2) t))
+quote-run t i q k h l b e = by (ltb (q + 1) (length t)) refl
+  where
+    by : (x : Bool) → ltb (q + 1) (length t) ≡ x → k ≡ cond x (q + 1) q → (i ≤ k) × (k ≤ length t) × (unquoted (drop i t) ≡ take (k - i) (drop i t) ++ unquoted (drop (q + 2) t))
+    by true y ek =
+        let n = ltb-true (q + 1) (length t) y in
+        let m : q + 1 - i ≡ suc (q - i) = omega arith in
+        let two : q + 1 + 1 ≡ q + 2 = omega arith in
+        let s : q - i < length (drop i t) = omega (arith, length-drop i t) in
+        let p : i + (q - i) ≡ q = omega arith in
+        let d : getD (drop i t) (q - i) 0 ≡ 34 = getD-drop i t (q - i) 0 ∙ (ap (λ (x : ℕ). getD t x 0) p ∙ b) in
+        let pair = unquoted-pair t q n b ∙ ap (λ (x : ℕ). 34 ∷ unquoted (drop x t)) two in
+        rw ek (omega arith, omega arith, e ∙ (ap (λ (x : List ℕ). take (q - i) (drop i t) ++ x) pair ∙ sym (rw (m, take-suc (drop i t) (q - i) 0 s, d) (append-assoc (take (q - i) (drop i t)) (34 ∷ []) (unquoted (drop (q + 2) t))))))
+    by false y ek =
+        let n = ltb-false (q + 1) (length t) y in
+        rw ek (h, omega arith, e ∙ ap (λ (x : List ℕ). take (q - i) (drop i t) ++ x) (unquoted-last t q n ∙ sym (unquoted-last t (q + 2) (omega arith))))

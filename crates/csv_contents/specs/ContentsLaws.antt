@@ -1,0 +1,25 @@
+-- The laws of contents. proofs/ContentsLaws.antt has `contents-laws : ContentsLaws`.
+use Prim.Native.Nat.{ℕ, _≤_}
+use mathlib.Core.Path.{_≡_}
+use mathlib.Core.List.{List, [], _∷_, _++_}
+use lib.ListN.{length, drop}
+use Rattle.refusals.specs.Lines.{RefusesInOrder}
+use Rattle.csv_grammar.specs.Grammar.{Field}
+use Rattle.csv_contents.specs.declared.Written.the-variants.{Bytes}
+use Rattle.csv_contents.specs.Contents.{Content, answerOf, targetOf, numberOf, valuesOf, contentLines}
+
+pub record ContentsLaws : Type 0 where
+  -- a field has one content, and only a field has one
+  pub has-content : (f : List ℕ) → Field f → (c : List ℕ) × Content f c
+  pub one-content : (f c d : List ℕ) → Content f c → Content f d → c ≡ d
+  pub only-fields : (f c : List ℕ) → Content f c → Field f
+  -- demand 1: "11 for a part that is no field, then 5 for a target shorter than the content", "both at place 0"
+  pub refuses : (part : List ℕ) (len : ℕ) → RefusesInOrder (numberOf (answerOf part len)) (contentLines part len) (11 ∷ 5 ∷ [])
+  pub refused-place : (part : List ℕ) (len : ℕ) → (numberOf (answerOf part len) ≡ 0 → ⊥) → valuesOf (answerOf part len) ≡ 0 ∷ []
+  pub writes-nothing : (part target : List ℕ) → (numberOf (answerOf part (length target)) ≡ 0 → ⊥) → targetOf part target ≡ target
+  -- the content that is written is the field's, and every content that there is room for is written
+  pub writes : (part target c : List ℕ) → Content part c → length c ≤ length target → (answerOf part (length target) ≡ Bytes (length c)) × (targetOf part target ≡ c ++ drop (length c) target)
+  pub writes-only : (part target : List ℕ) → numberOf (answerOf part (length target)) ≡ 0 →
+      (c : List ℕ) × Content part c × (valuesOf (answerOf part (length target)) ≡ length c ∷ []) × (targetOf part target ≡ c ++ drop (length c) target)
+  -- a field is never refused with 11
+  pub field-accepted : (f : List ℕ) (len : ℕ) → Field f → numberOf (answerOf f len) ≡ 11 → ⊥

@@ -1,0 +1,4 @@
+-- The proofs of field ends.
+pub mod Bytes
+pub mod Runs
+pub mod FieldsLaws

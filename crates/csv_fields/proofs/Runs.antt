@@ -1,0 +1,91 @@
+-- Runs of a field's bytes, byte by byte.
+use Prim.Native.Nat.{ℕ, suc, _+_, _-_, _<_, _≤_}
+use mathlib.Core.Path.{_≡_, refl, sym, ap, _∙_}
+use mathlib.Core.Logic.{inl}
+use mathlib.Core.Bool.{Bool, true, false, cond}
+use mathlib.Core.List.{List, [], _∷_}
+use native.Mathlib.Omega.{arith}
+use native.Mathlib.Numerals.{add-one}
+use lib.Dec.{eqb, ltb}
+use lib.ListN.{length, drop, getD, drop-of-length-le}
+use lib.Seq.{drop-cons}
+use borrow.Author.Tests.{eq-eqb, ne-eqb, ltb-true, ltb-false}
+use Rattle.csv_fields.specs.declared.FieldEnd.{FieldEnd}
+use Rattle.csv_fields.specs.Ends.{isTextData, isInside, plainEnd, quotedEnd, fieldEnd}
+use Rattle.csv_fields.proofs.Bytes.{textdata-no, inside-no}
+
+module _ (text : List ℕ) (i : ℕ) (h : length text ≤ i) where
+  pub plain-over : plainEnd i (drop i text) ≡ i
+  unfolding plainEnd
+  plain-over = rw (drop-of-length-le text h)
+
+  pub quoted-over : (closed : Bool) → quotedEnd closed i (drop i text) ≡ record { at = i; whole = closed }
+  unfolding quotedEnd
+  quoted-over closed = rw (drop-of-length-le text h)
+
+  pub field-over : fieldEnd i (drop i text) ≡ record { at = i; whole = true }
+  unfolding fieldEnd
+  field-over = rw (drop-of-length-le text h)
+
+module _ (text : List ℕ) (i : ℕ) (h : i < length text) where
+  pub plain-on : isTextData (getD text i 0) ≡ true → plainEnd i (drop i text) ≡ plainEnd (i + 1) (drop (i + 1) text)
+  unfolding plainEnd
+  plain-on e = rw (add-one, drop-cons text i 0 h, e)
+
+  pub plain-here : isTextData (getD text i 0) ≡ false → plainEnd i (drop i text) ≡ i
+  unfolding plainEnd
+  plain-here e = rw (drop-cons text i 0 h, e)
+
+  pub inside-on : isInside (getD text i 0) ≡ true → quotedEnd false i (drop i text) ≡ quotedEnd false (i + 1) (drop (i + 1) text)
+  unfolding quotedEnd
+  inside-on e = rw (add-one, drop-cons text i 0 h, no-quote (getD text i 0) e, e)
+    where
+      no-quote : (b : ℕ) → isInside b ≡ true → eqb b 34 ≡ false
+      no-quote b e = ne-eqb b 34 (λ q. let z : true ≡ false = sym e ∙ inside-no b (inl q) in let y : _≡_ {A = ℕ} 0 1 = cc in omega arith)
+
+  pub inside-here : isInside (getD text i 0) ≡ false → (getD text i 0 ≡ 34 → ⊥) → quotedEnd false i (drop i text) ≡ record { at = i; whole = false }
+  unfolding quotedEnd
+  inside-here e n = rw (drop-cons text i 0 h, ne-eqb (getD text i 0) 34 n, e)
+
+  -- a quote opens a field, closes it, and after a quote opens it again
+  pub quote-opens : getD text i 0 ≡ 34 → fieldEnd i (drop i text) ≡ quotedEnd false (i + 1) (drop (i + 1) text)
+  unfolding fieldEnd
+  quote-opens e = rw (add-one, drop-cons text i 0 h, eq-eqb (getD text i 0) 34 e)
+
+  pub quote-closes : getD text i 0 ≡ 34 → quotedEnd false i (drop i text) ≡ quotedEnd true (i + 1) (drop (i + 1) text)
+  unfolding quotedEnd
+  quote-closes e = rw (add-one, drop-cons text i 0 h, eq-eqb (getD text i 0) 34 e)
+
+  pub quote-again : getD text i 0 ≡ 34 → quotedEnd true i (drop i text) ≡ quotedEnd false (i + 1) (drop (i + 1) text)
+  unfolding quotedEnd
+  quote-again e = rw (add-one, drop-cons text i 0 h, eq-eqb (getD text i 0) 34 e)
+
+  pub closed-here : (getD text i 0 ≡ 34 → ⊥) → quotedEnd true i (drop i text) ≡ record { at = i; whole = true }
+  unfolding quotedEnd
+  closed-here n = rw (drop-cons text i 0 h, ne-eqb (getD text i 0) 34 n)
+
+  -- another byte begins a field of TEXTDATA, or ends it at once
+  pub plain-field : (getD text i 0 ≡ 34 → ⊥) → fieldEnd i (drop i text) ≡ record { at = plainEnd i (drop i text); whole = true }
+  unfolding fieldEnd
+  plain-field n = rw (drop-cons text i 0 h, ne-eqb (getD text i 0) 34 n)
+
+  -- a byte of TEXTDATA is not the last one, where that is a control byte
+  pub before-last : getD text (length text - 1) 0 < 32 → isTextData (getD text i 0) ≡ true → i + 1 < length text
+  before-last l e = by (ltb (i + 1) (length text)) refl
+    where
+      by : (t : Bool) → ltb (i + 1) (length text) ≡ t → i + 1 < length text
+      by true q = ltb-true (i + 1) (length text) q
+      by false q =
+          let n = ltb-false (i + 1) (length text) q in
+          let k : length text - 1 ≡ i = omega arith in
+          let z : true ≡ false = sym e ∙ textdata-no (getD text i 0) (inl (rw k at l)) in
+          let y : _≡_ {A = ℕ} 0 1 = cc in
+          absurd (omega arith)
+
+-- a field at any place that does not begin with a quote
+pub no-quote-field : (text : List ℕ) (i : ℕ) → (i < length text → getD text i 0 ≡ 34 → ⊥) → fieldEnd i (drop i text) ≡ record { at = plainEnd i (drop i text); whole = true }
+no-quote-field text i n = by (ltb i (length text)) refl
+  where
+    by : (t : Bool) → ltb i (length text) ≡ t → fieldEnd i (drop i text) ≡ record { at = plainEnd i (drop i text); whole = true }
+    by true q = let l = ltb-true i (length text) q in plain-field text i l (n l)
+    by false q = let l = ltb-false i (length text) q in field-over text i l ∙ ap (λ (e : ℕ). record { at = e; whole = true }) (sym (plain-over text i l))

@@ -1,0 +1,3 @@
+-- Where a field ends.
+pub mod Ends
+pub mod FieldsLaws

@@ -1,0 +1,191 @@
+-- The laws of the grammar.
+use Prim.Native.Nat.{ℕ, zero, suc, _<_}
+use mathlib.Core.Path.{_≡_, refl, sym, ap, _∙_, subst, subst⁻¹}
+use mathlib.Core.Logic.{_⊎_, inl, inr, ⊎-elim}
+use mathlib.Core.Bool.{Bool, true, false, cond}
+use mathlib.Core.List.{List, [], _∷_, _++_}
+use native.Mathlib.Omega.{arith}
+use lib.ListN.{length, take, drop, getD, take-append-drop}
+use Rattle.refusals.specs.Numbers.{accepted}
+use Rattle.refusals.specs.Lines.{NumberOfFirst, NoneApplies}
+use Rattle.csv_grammar.specs.declared.Answer.{Answer}
+use Rattle.csv_grammar.specs.declared.Answer.the-variants.{Counts, Refused}
+use Rattle.csv_grammar.specs.Grammar as G
+use Rattle.csv_grammar.specs.Table.{isBlank, skips, addLine, addLines, tableOf, columnsOf, entry, Even}
+use Rattle.csv_grammar.specs.Faults.{NotCsvAt, RaggedAt, TooManyAt, faultLines, numberOf, Reads}
+use Rattle.csv_grammar.specs.GrammarLaws.{GrammarLaws}
+use Rattle.csv_grammar.proofs.Automaton.{Mode, Fresh, Bare, Quoted, Closed, Return, Dead, readOf}
+use Rattle.csv_grammar.proofs.Letters.{split}
+use Rattle.csv_grammar.proofs.Division.{run, begin, lastLine, Ends, unique}
+use Rattle.csv_grammar.proofs.Sound.{okay, sound, barred, quote-ends, lf-ends}
+use Rattle.csv_grammar.proofs.Faults.{Fault, Right, Before, Faulty, fault-11, fault-12, fault-13, faulty}
+use Rattle.csv_grammar.proofs.Verdict.{right, first}
+use Rattle.csv_grammar.proofs.Even.{even}
+use Rattle.csv_grammar.proofs.Places.{entry-stands}
+
+-- ---- what the automaton answers is what a reading answers
+
+none-there : {t : List ℕ} {q : ℕ} → ((m : ℕ) → Fault t q m → ⊥) → NoneApplies (faultLines t q)
+none-there h = (λ f. h 11 (fault-11 f), (λ f. h 12 (fault-12 f), (λ f. h 13 (fault-13 f), tt)))
+
+-- one number alone applies at a place
+number-there : {t : List ℕ} {p n : ℕ} → Faulty t p n → ((m : ℕ) → Fault t p m → n ≡ m) → NumberOfFirst n (faultLines t p)
+number-there (inl f) h = inl (f .1, f .0)
+number-there {n = n} (inr (inl f)) h = inr (λ g. let e : n ≡ 11 = h 11 (fault-11 g) in omega (arith, f .0), inl (f .1, f .0))
+number-there {n = n} (inr (inr f)) h =
+    inr (λ g. let e : n ≡ 11 = h 11 (fault-11 g) in omega (arith, f .0), inr (λ g. let e : n ≡ 12 = h 12 (fault-12 g) in omega (arith, f .0), inl (f .1, f .0)))
+
+not-accepted : {t : List ℕ} {p n : ℕ} → Faulty t p n → n ≡ accepted → ⊥
+not-accepted (inl f) e = omega (arith, f .0)
+not-accepted (inr (inl f)) e = omega (arith, f .0)
+not-accepted (inr (inr f)) e = omega (arith, f .0)
+
+same-number : {q m n p : ℕ} → Before q m (Refused n p) → p ≡ q → n ≡ m
+same-number (inl h) e = absurd (omega arith)
+same-number (inr h) e = h .1
+
+not-earlier : {q m n p : ℕ} → Before q m (Refused n p) → q < p → ⊥
+not-earlier (inl h) l = omega arith
+not-earlier (inr h) l = omega (arith, h .0)
+
+pub reads : (t : List ℕ) → Reads t (readOf t)
+reads t = go (readOf t) (right t) (λ (q m : ℕ) (f : Fault t q m). first f)
+  where
+    go : (a : Answer) → Right t a → ((q m : ℕ) → Fault t q m → Before q m a) → Reads t a
+    go (Counts r c) w f = (λ q. none-there (λ m. f q m), w .0, w .1, w .2, w .3, w .4)
+    go (Refused n p) w f =
+        (λ q l. none-there (λ m g. not-earlier (f q m g) l), number-there (faulty w) (λ m g. same-number (f p m g) refl), not-accepted (faulty w))
+
+-- the fault that a refusal names
+named : {t : List ℕ} {p n : ℕ} → NumberOfFirst n (faultLines t p) → (n ≡ accepted → ⊥) → Fault t p n
+named {t} {p} {n} w z = ⊎-elim (λ h. subst⁻¹ (Fault t p) (h .1) (fault-11 (h .0))) (λ x. ⊎-elim (λ h. subst⁻¹ (Fault t p) (h .1) (fault-12 (h .0))) (λ y. ⊎-elim (λ h. subst⁻¹ (Fault t p) (h .1) (fault-13 (h .0))) (λ e. absurd (z (e .1))) (y .1)) (x .1)) w
+
+none-named : {t : List ℕ} {p n : ℕ} → NoneApplies (faultLines t p) → Fault t p n → ⊥
+none-named h f = ⊎-elim (λ g. h .0 (g .1)) (λ x. ⊎-elim (λ g. h .1 .0 (g .1)) (λ g. h .1 .1 .0 (g .1)) x) (faulty f)
+
+is-read : (t : List ℕ) (a : Answer) → Reads t a → a ≡ readOf t
+is-read t (Counts r c) h = go (readOf t) (right t)
+  where
+    go : (b : Answer) → Right t b → Counts r c ≡ b
+    go (Counts r′ c′) w =
+        let u = unique (h .3) (w .2) in
+        let e : tableOf (h .1) (h .2) ≡ tableOf (w .0) (w .1) = λ j. tableOf (u .0 j) (u .1 j) in
+        λ j. Counts ((h .4 ∙ (ap length e ∙ sym (w .3))) j) ((h .5 ∙ (ap columnsOf e ∙ sym (w .4))) j)
+    go (Refused n p) w = absurd (none-named (h .0 p) w)
+is-read t (Refused n p) h = go (readOf t) (right t) (first (named (h .1) (h .2)))
+  where
+    go : (b : Answer) → Right t b → Before p n b → Refused n p ≡ b
+    go (Counts r c) w f = absurd f
+    go (Refused m q) w (inl l) = absurd (none-named (h .0 q l) w)
+    go (Refused m q) w (inr e) = λ j. Refused (sym (e .1) j) (sym (e .0) j)
+
+pub one-answer : (t : List ℕ) (a b : Answer) → Reads t a → Reads t b → a ≡ b
+one-answer t a b p q = is-read t a p ∙ sym (is-read t b q)
+
+-- ---- accepted exactly
+
+accepts : (t : List ℕ) (a : Answer) → Reads t a → G.IsText t → ((p : ℕ) → RaggedAt t p → ⊥) → ((p : ℕ) → TooManyAt t p → ⊥) → numberOf a ≡ 0
+accepts t (Counts r c) h g e w = refl
+accepts t (Refused n p) h g e w = absurd (by (faulty (named (h .1) (h .2))))
+  where
+    not-csv : NotCsvAt t p → ⊥
+    not-csv (inl f) = f .2 (drop (suc p) t, subst⁻¹ G.IsText (take-append-drop (suc p) t) g)
+    not-csv (inr f) = f .2 g
+
+    by : Faulty t p n → ⊥
+    by (inl f) = not-csv (f .1)
+    by (inr (inl f)) = e p (f .1)
+    by (inr (inr f)) = w p (f .1)
+
+accepts-only : (t : List ℕ) (a : Answer) → Reads t a → numberOf a ≡ 0 → G.IsText t × ((p : ℕ) → RaggedAt t p → ⊥) × ((p : ℕ) → TooManyAt t p → ⊥)
+accepts-only t (Counts r c) h e = ((h .1, h .2, h .3), λ p f. h .0 p .1 .0 f, λ p f. h .0 p .1 .1 .0 f)
+accepts-only t (Refused n p) h e = absurd (h .2 e)
+
+even-rows : (t : List ℕ) (a : Answer) → Reads t a → numberOf a ≡ 0 → (ls : List (List (List ℕ))) (l : List (List ℕ)) → G.Text t ls l → Even (tableOf ls l)
+even-rows t (Counts r c) h e ls l p = even p (sym (is-read t (Counts r c) h))
+even-rows t (Refused n p) h e ls l x = absurd (h .2 e)
+
+-- ---- lines and fields
+
+breaks-off : (t : List ℕ) → G.Begins t → G.IsText t ⊎ (G.IsText (t ++ (34 ∷ [])) ⊎ G.IsText (t ++ (10 ∷ [])))
+breaks-off t g = go (run begin t .mode) refl
+  where
+    whole : Ends (run begin t .mode) → G.IsText t
+    whole e = (run begin t .done, lastLine (run begin t), sound (okay t) e)
+
+    go : (m : Mode) → run begin t .mode ≡ m → G.IsText t ⊎ (G.IsText (t ++ (34 ∷ [])) ⊎ G.IsText (t ++ (10 ∷ [])))
+    go Fresh e = inl (whole (subst⁻¹ Ends e Ends.fresh))
+    go Bare e = inl (whole (subst⁻¹ Ends e Ends.bare))
+    go Quoted e = inr (inl (quote-ends (okay t) e))
+    go Closed e = inl (whole (subst⁻¹ Ends e Ends.closed))
+    go Return e = inr (inr (lf-ends (okay t) e))
+    go Dead e = absurd (barred t e g)
+
+no-nil : {A : Type 0} {b : ℕ} {s : List ℕ} → b ∷ s ≡ [] → A
+no-nil e = let z : _≡_ {A = ℕ} 0 1 = cc in absurd (omega arith)
+
+abbrev Blank : List ℕ → List (List ℕ) → Type 0
+Blank s fs = (isBlank fs ≡ true → s ≡ []) × (s ≡ [] → isBlank fs ≡ true)
+
+no-bytes : (s : List ℕ) → Blank s (s ∷ [])
+no-bytes [] = (λ e. refl, λ e. refl)
+no-bytes (b ∷ s) = (λ e. cc, λ e. no-nil e)
+
+comma-bytes : (f s : List ℕ) (fs : List (List ℕ)) → isBlank (f ∷ fs) ≡ false → Blank (f ++ (44 ∷ s)) (f ∷ fs)
+comma-bytes [] s fs n = (λ e. cc, λ e. no-nil e)
+comma-bytes (b ∷ f) s fs n = (λ e. cc, λ e. no-nil e)
+
+pub several : {s : List ℕ} {gs : List (List ℕ)} → G.Line s gs → (f : List ℕ) → isBlank (f ∷ gs) ≡ false
+several (G.Line.one h) [] = refl
+several (G.Line.more h q) [] = refl
+several (G.Line.one h) (b ∷ f) = refl
+several (G.Line.more h q) (b ∷ f) = refl
+
+pub blank-line : {s : List ℕ} {fs : List (List ℕ)} → G.Line s fs → Blank s fs
+blank-line (G.Line.one {f = f} h) = no-bytes f
+blank-line (G.Line.more {f = f} {s = s} {fs = fs} h q) = comma-bytes f s fs (several q f)
+
+-- ---- what stands in a table is a field
+
+pub empty-field : G.Field []
+empty-field = G.Field.non-escaped G.NonEscaped.none
+
+line-field : {s : List ℕ} {fs : List (List ℕ)} → G.Line s fs → (k : ℕ) → G.Field (getD fs k [])
+line-field (G.Line.one h) zero = h
+line-field (G.Line.one h) (suc k) = empty-field
+line-field (G.Line.more h q) zero = h
+line-field (G.Line.more h q) (suc k) = line-field q k
+
+Fielded : List (List (List ℕ)) → Type 0
+Fielded rows = (r k : ℕ) → G.Field (entry rows r k)
+
+fielded-last : (rows : List (List (List ℕ))) {s : List ℕ} {l : List (List ℕ)} → Fielded rows → G.Line s l → Fielded (rows ++ (l ∷ []))
+unfolding Fielded
+fielded-last [] h q zero k = line-field q k
+fielded-last [] h q (suc r) k = empty-field
+fielded-last (x ∷ rows) h q zero k = h zero k
+fielded-last (x ∷ rows) h q (suc r) k = fielded-last rows (λ (n m : ℕ). h (suc n) m) q r k
+
+fielded-text : {t : List ℕ} {ls : List (List (List ℕ))} {l : List (List ℕ)} → G.Text t ls l → (rows : List (List (List ℕ))) → Fielded rows →
+    Fielded (cond (isBlank l) (addLines rows ls) (addLines rows ls ++ (l ∷ [])))
+fielded-text (G.Text.last {l = l} q) rows h = split Fielded (isBlank l) (λ y. h) (λ z. fielded-last rows h q)
+fielded-text (G.Text.next {fs = fs} q p) rows h = fielded-text p (addLine rows fs) (split Fielded (skips rows fs) (λ y. h) (λ z. fielded-last rows h q))
+
+pub entry-field : {t : List ℕ} {ls : List (List (List ℕ))} {l : List (List ℕ)} → G.Text t ls l → (row column : ℕ) → G.Field (entry (tableOf ls l) row column)
+unfolding Fielded
+entry-field p = fielded-text p [] (λ r k. empty-field)
+
+pub grammar-laws : GrammarLaws
+grammar-laws =
+    record {
+      one-division = λ t ls ms l k p q. unique p q;
+      blank-line = λ s fs q. blank-line q;
+      breaks-off = breaks-off;
+      fault-numbers = λ t p. refl;
+      one-answer = one-answer;
+      accepts = accepts;
+      accepts-only = accepts-only;
+      even-rows = even-rows;
+      entry-field = λ t ls l p. entry-field p;
+      entry-stands = λ t ls l p. entry-stands p;
+    }

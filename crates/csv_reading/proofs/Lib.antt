@@ -1,0 +1,2 @@
+-- The proofs of reading.
+pub mod Reading

@@ -1,0 +1,2 @@
+-- One step of a reading.
+pub mod Steps

@@ -1,0 +1,2 @@
+-- The words of the calls for C.
+pub mod Words
