@@ -109,9 +109,13 @@ unfolding contentOf
 plain-content [] n = refl
 plain-content (b ∷ s) n = rw (ne-eqb b 34 (n (omega arith)))
 
-pub measures-plain : (t : List ℕ) (e : ℕ) → (0 < length t → getD t 0 0 ≡ 34 → ⊥) → e ≡ plainEnd 0 t → Measures t (record { whole = eqb e (length t); len = length t })
+pub measures-plain : (t : List ℕ) (e : FieldEnd) → (0 < length t → getD t 0 0 ≡ 34 → ⊥) → e ≡ fieldEnd 0 t → Measures t (record { whole = eqb (e .at) (length t); len = length t })
 unfolding isField
-measures-plain t e n q = record { field = ap (λ (x : ℕ). eqb x (length t)) q ∙ sym (ap (wholeAt (length t)) (no-quote-field t 0 n)); counts = λ y. ap length (sym (plain-content t n)) }
+measures-plain t e n q =
+    record {
+      field = ap (λ (x : FieldEnd). eqb (x .at) (length t)) (q ∙ no-quote-field t 0 n) ∙ sym (ap (wholeAt (length t)) (no-quote-field t 0 n));
+      counts = λ y. ap length (sym (plain-content t n));
+    }
 
 -- a copy of such a part to the front of a target
 pub written-plain : (t target now : List ℕ) → (0 < length t → getD t 0 0 ≡ 34 → ⊥) → now ≡ take (length t) t ++ drop (length t) target → now ≡ contentOf t ++ drop (length (contentOf t)) target

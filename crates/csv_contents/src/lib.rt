@@ -92,7 +92,8 @@ fn measure(part: &[u8]) -> Measured
             return measure_quoted(part);
         }
     }
-    let e = csv_fields::plain_end(part, 0);
+    let f = csv_fields::field_end(part, 0);
+    let e = f.at;
     Measured {
         whole: e == n,
         len: n,

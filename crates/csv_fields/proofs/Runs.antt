@@ -82,6 +82,17 @@ module _ (text : List ℕ) (i : ℕ) (h : i < length text) where
           let y : _≡_ {A = ℕ} 0 1 = cc in
           absurd (omega arith)
 
+-- from a place on, the TEXTDATA goes on to a later place k, which is within the text
+abbrev pub RunsTo : (text : List ℕ) (from k : ℕ) → Type 0
+RunsTo text from k = (plainEnd from (drop from text) ≡ plainEnd k (drop k text)) × (k < length text)
+
+-- one byte of TEXTDATA more, where the text's last byte is a control byte
+pub runs-more : (text : List ℕ) (from k : ℕ) → getD text (length text - 1) 0 < 32 → RunsTo text from k → isTextData (getD text k 0) ≡ true → RunsTo text from (k + 1)
+runs-more text from k l r e = (r .0 ∙ plain-on text k (r .1) e, before-last text k (r .1) l e)
+
+pub runs-end : (text : List ℕ) (from k : ℕ) → RunsTo text from k → isTextData (getD text k 0) ≡ false → (k ≡ plainEnd from (drop from text)) × (k < length text)
+runs-end text from k r e = (sym (r .0 ∙ plain-here text k (r .1) e), r .1)
+
 -- a field at any place that does not begin with a quote
 pub no-quote-field : (text : List ℕ) (i : ℕ) → (i < length text → getD text i 0 ≡ 34 → ⊥) → fieldEnd i (drop i text) ≡ record { at = plainEnd i (drop i text); whole = true }
 no-quote-field text i n = by (ltb i (length text)) refl

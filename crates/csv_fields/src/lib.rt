@@ -69,9 +69,9 @@ pub fn is_inside(b: u8) -> bool
 }
 
 // The end of a run of TEXTDATA in a text whose last byte is none, so that no byte asks for the text's end.
-fn run_end(text: &[u8], from: usize) -> usize
+pub fn run_end(text: &[u8], from: usize) -> usize
     requires { ⌜ (from < length (now text)) × (getD (now text) (length (now text) - 1) 0 < 32) ⌝ }
-    ensures { λ r. ⌜ r ≡ plainEnd from (drop from (now (text .entry))) ⌝ }
+    ensures { λ r. ⌜ (r ≡ plainEnd from (drop from (now (text .entry)))) × (r < length (now (text .entry))) ⌝ }
 {
     let mut i = from;
     loop {
@@ -87,7 +87,7 @@ fn run_end(text: &[u8], from: usize) -> usize
 }
 
 // The end of a run of TEXTDATA in any text.
-fn bounded_end(text: &[u8], from: usize) -> usize
+pub fn bounded_end(text: &[u8], from: usize) -> usize
     ensures { λ r. ⌜ r ≡ plainEnd from (drop from (now (text .entry))) ⌝ }
 {
     let mut i = from;

@@ -22,8 +22,7 @@ use Rattle.csv_fields.proofs.Runs.{quote-opens, no-quote-field}
 use Rattle.csv_fields.proofs.FieldsLaws.{plain-within, quoted-within}
 use Rattle.csv_reading.specs.declared.Tally.{Tally}
 use Rattle.csv_reading.specs.declared.Progress.{Progress}
-use Rattle.csv_reading.specs.declared.Progress.the-variants.{On, Over}
-use Rattle.csv_reading.specs.Steps.{ragged, withLine, afterComma, lfAt, afterCr, atEnd, afterField, blankFrom, afterEnd, stepOf}
+use Rattle.csv_reading.specs.Steps.{goingOn, overAt, answerOf, ragged, withLine, afterComma, lfAt, blankFrom, afterCr, atEnd, atByte, afterField, afterEnd, stepOf}
 
 -- the counts, in a mode
 abbrev pub counter : Mode → Tally → Counter
@@ -249,9 +248,12 @@ module _ (text : List ℕ) (c : Tally) (i : ℕ) (h : i ≤ length text) where
 -- ---- what follows a field
 
 -- the reading goes on the same from the later place, or this is its answer
+abbrev pub ContinuesBy : Bool → (text : List ℕ) → Tally → ℕ → Progress → Type 0
+ContinuesBy false text c i p = (readAt text Fresh c i ≡ readAt text Fresh (p .tally) (p .at)) × (i < p .at) × (p .at ≤ length text) × (p .tally .rows ≤ p .at) × (p .tally .fields ≤ p .at)
+ContinuesBy true text c i p = readAt text Fresh c i ≡ answerOf p
+
 abbrev pub Continues : (text : List ℕ) → Tally → ℕ → Progress → Type 0
-Continues text c i (On d j) = (readAt text Fresh c i ≡ readAt text Fresh d j) × (i < j) × (j ≤ length text) × (d .rows ≤ j) × (d .fields ≤ j)
-Continues text c i (Over a) = readAt text Fresh c i ≡ a
+Continues text c i p = ContinuesBy (p .over) text c i p
 
 -- a fault, or none
 refuse-by : (x : Bool) (n p : ℕ) (a : Answer) → (n ≡ 0 → ⊥) → refuseOr (cond x n 0) p a ≡ cond x (Refused n p) a
@@ -268,10 +270,16 @@ fault-end : (m : Mode) (c : Tally) (blank : Bool) → blankLine m (c .fields) �
 unfolding ragged
 fault-end m c blank e = rw e (no-fault blank (eqb (c .rows) 0) (eqb (c .fields + 1) (c .columns)))
 
-counted-line : (m : Mode) (c : Tally) (skip : Bool) → counted (counter m c) skip ≡ counter Return (withLine c skip)
-unfolding counted withLine
-counted-line m c true = refl
-counted-line m c false = refl
+-- where the line is not ragged, the counts are the automaton's
+first-row : (x y : Bool) (n k : ℕ) → eqb n k ≡ y → cond x false (cond y false true) ≡ false → cond x n k ≡ n
+first-row true y n k e q = refl
+first-row false true n k e q = sym (eqb-true n k e)
+first-row false false n k e q = absurd (true≢false q)
+
+counted-line : (m : Mode) (c : Tally) (skip : Bool) → ragged c skip ≡ false → counted (counter m c) skip ≡ counter Return (withLine c skip)
+unfolding counted withLine ragged
+counted-line m c true q = refl
+counted-line m c false q = ap (λ (n : ℕ). record { mode = Return; row = c .rows + 1; column = 0; first = n }) (first-row (eqb (c .rows) 0) (eqb (c .fields + 1) (c .columns)) (c .fields + 1) (c .columns) refl q)
 
 line-small : (c : Tally) (skip : Bool) → (withLine c skip .rows ≤ c .rows + 1) × (withLine c skip .fields ≤ 0)
 unfolding withLine
@@ -354,35 +362,44 @@ module _ (text : List ℕ) (c : Tally) (i e : ℕ) {m : Mode} {blank : Bool} (w 
   line-fault : (a : Answer) → refuseOr (faultOf (counter m c) End) e a ≡ cond (ragged c blank) (Refused 12 e) a
   line-fault a = ap (λ (n : ℕ). refuseOr n e a) (fault-end m c blank (w .is-blank)) ∙ refuse-by (ragged c blank) 12 e a (λ z. omega arith)
 
-  line-counts : (skip : Bool) → blankLine m (c .fields) ≡ skip → counted (counter m c) skip ≡ counter Return (withLine c blank)
-  line-counts skip q = ap (counted (counter m c)) (sym q ∙ w .is-blank) ∙ counted-line m c blank
+  line-counts : ragged c blank ≡ false → (skip : Bool) → blankLine m (c .fields) ≡ skip → counted (counter m c) skip ≡ counter Return (withLine c blank)
+  line-counts n skip q = ap (counted (counter m c)) (sym q ∙ w .is-blank) ∙ counted-line m c blank n
+
+  -- a claim on a line's end, ragged or not
+  at-line-end : {a b : Answer} → (ragged c blank ≡ false → a ≡ b) → cond (ragged c blank) (Refused 12 e) a ≡ cond (ragged c blank) (Refused 12 e) b
+  at-line-end {a} {b} h = by (ragged c blank) h
+    where
+      by : (x : Bool) → (x ≡ false → a ≡ b) → cond x (Refused 12 e) a ≡ cond x (Refused 12 e) b
+      by true h = refl
+      by false h = h refl
 
   cr-reads : e < length text → getD text e 0 ≡ 13 →
       readAt text Fresh c i ≡ cond (ragged c blank) (Refused 12 e) (cond (lfAt text (e + 1)) (readAt text Fresh (withLine c blank) (e + 1 + 1)) (Refused 11 (e + 1)))
   cr-reads h b =
       w .same ∙ (there text e m c 13 h b ∙ (cr-byte c e (drop (e + 1) text) (w .ends) ∙ (line-fault _
-      ∙ ap (cond (ragged c blank) (Refused 12 e)) ((λ j. readFrom (line-counts (skipLine (counter m c)) refl j) (sym (add-one e) j) (drop (e + 1) text)) ∙ after-return text (e + 1) (withLine c blank)))))
+      ∙ at-line-end (λ n. (λ j. readFrom (line-counts n (skipLine (counter m c)) refl j) (sym (add-one e) j) (drop (e + 1) text)) ∙ after-return text (e + 1) (withLine c blank)))))
 
-  end-reads : length text ≤ e → readAt text Fresh c i ≡ atEnd c blank e
-  unfolding atEnd
+  end-reads : length text ≤ e → readAt text Fresh c i ≡ cond (ragged c blank) (Refused 12 e) (Counts (withLine c blank .rows) (withLine c blank .columns))
   end-reads h =
       w .same ∙ (over text e m c h ∙ (end-byte c e (w .ends) ∙ (line-fault _
-      ∙ ap (cond (ragged c blank) (Refused 12 e)) (λ j. Counts (line-counts (blankLine m (c .fields)) refl j .row) (line-counts (blankLine m (c .fields)) refl j .first)))))
+      ∙ at-line-end (λ n j. Counts (line-counts n (blankLine m (c .fields)) refl j .row) (line-counts n (blankLine m (c .fields)) refl j .first)))))
 
   other-reads : (h : e < length text) → (getD text e 0 ≡ 44 → ⊥) → (getD text e 0 ≡ 13 → ⊥) → readAt text Fresh c i ≡ Refused 11 e
   unfolding readFrom
   other-reads h k r = w .same ∙ (there text e m c (getD text e 0) h refl ∙ rw (w .stops h k r))
 
-  pub after-reached : c .rows ≤ i → c .fields ≤ i → Continues text c i (afterField text c blank e)
-  unfolding afterField afterComma afterCr
-  after-reached rows fields =
-      split (Continues text c i) (ltb e (length text)) (λ l. let h = ltb-true e (length text) l in
+  pub after-reached : blank ≡ blankFrom c i e → c .rows ≤ i → c .fields ≤ i → Continues text c i (afterField text c i e)
+  unfolding afterField atByte afterComma afterCr atEnd answerOf
+  after-reached eb rows fields =
+      rw (← eb)
+      (split (Continues text c i) (ltb e (length text)) (λ l. let h = ltb-true e (length text) l in
       split (Continues text c i) (eqb (getD text e 0) 44) (λ k. let b = comma-reads h (eqb-true _ 44 k) in
       split (Continues text c i) (eqb (c .fields + 1) 32) (λ y. b ∙ rw y) (λ z. (b ∙ rw z, omega (arith, w .after), omega arith, omega (arith, w .after), omega (arith, w .after)))) (λ k.
       split (Continues text c i) (eqb (getD text e 0) 13) (λ r. let b = cr-reads h (eqb-true _ 13 r) in
       split (Continues text c i) (ragged c blank) (λ y. b ∙ rw y) (λ z.
       split (Continues text c i) (lfAt text (e + 1)) (λ y. let s = line-small c blank in (b ∙ rw (z, y), omega (arith, w .after), lf-within y, omega (arith, w .after), omega (arith, w .after))) (λ n. b ∙ rw (z, n)))) (λ r.
-      other-reads h (eqb-false _ 44 k) (eqb-false _ 13 r)))) (λ l. end-reads (ltb-false e (length text) l))
+      other-reads h (eqb-false _ 44 k) (eqb-false _ 13 r)))) (λ l. let b = end-reads (ltb-false e (length text) l) in
+      split (Continues text c i) (ragged c blank) (λ y. b ∙ rw y) (λ z. b ∙ rw z)))
     where
       lf-within : lfAt text (e + 1) ≡ true → e + 1 + 1 ≤ length text
       lf-within y = by (ltb (e + 1) (length text)) refl y
@@ -395,14 +412,15 @@ module _ (text : List ℕ) (c : Tally) (i e : ℕ) {m : Mode} {blank : Bool} (w 
 
 module _ (text : List ℕ) (c : Tally) (i : ℕ) (h : i ≤ length text) (rows : c .rows ≤ i) (fields : c .fields ≤ i) where
   quoted-continues : i < length text → getD text i 0 ≡ 34 → (f : FieldEnd) → f ≡ quotedEnd false (i + 1) (drop (i + 1) text) → Continues text c i (afterEnd text c i f)
+  unfolding answerOf
   quoted-continues l q f ef = by (f .whole) refl
     where
-      by : (x : Bool) → f .whole ≡ x → Continues text c i (cond x (afterField text c (blankFrom c i (f .at)) (f .at)) (Over (Refused 11 (f .at))))
-      by true w = after-reached text c i (f .at) (quoted-reached text c i h l q f ef w) rows fields
+      by : (x : Bool) → f .whole ≡ x → Continues text c i (cond x (afterField text c i (f .at)) (overAt 11 (f .at) c))
+      by true w = after-reached text c i (f .at) (quoted-reached text c i h l q f ef w) refl rows fields
       by false w = quoted-broken text c i h l q f ef w
 
   plain-continues : (i < length text → getD text i 0 ≡ 34 → ⊥) → Continues text c i (afterEnd text c i (record { at = plainEnd i (drop i text); whole = true }))
-  plain-continues n = let r = plain-reached text c i h n in after-reached text c i (plainEnd i (drop i text)) (r .1) rows fields
+  plain-continues n = let r = plain-reached text c i h n in after-reached text c i (plainEnd i (drop i text)) (r .1) refl rows fields
 
   pub continues : Continues text c i (stepOf text c i)
   unfolding stepOf

@@ -1,9 +1,10 @@
 // Reading RFC 4180 text: the counts of its rows and columns, or its first fault. The reading goes field by field.
 ghost use mathlib.Core.Path.{_≡_};
 ghost use Prim.Native.Nat.{_+_, _<_, _^_};
-ghost use lib.ListN.{length};
+ghost use lib.ListN.{length, drop};
+ghost use Rattle.csv_fields.specs.Ends.{plainEnd};
 ghost use Rattle.csv_grammar.specs.Faults.{Reads};
-ghost use Rattle.csv_reading.specs.Steps.{ragged, blankFrom, withLine, afterComma, afterCr, atEnd, afterField, stepOf};
+ghost use Rattle.csv_reading.specs.Steps.{goingOn, overAt, answerOf, ragged, withLine, afterComma, blankFrom, afterCr, atEnd, atByte, afterField, stepOf};
 use csv_grammar::Answer;
 use refusals::numbers;
 
@@ -17,10 +18,34 @@ pub struct Tally {
     pub columns: usize,
 }
 
-// What a reading comes to after a field: the counts at a later place, or the answer.
-pub enum Progress {
-    On(Tally, usize),
-    Over(Answer),
+// What a reading comes to after a field: it goes on with these counts at a later place, or is over, with a refusal and its place or with the counts.
+pub struct Progress {
+    pub over: bool,
+    pub number: u64,
+    pub at: usize,
+    pub tally: Tally,
+}
+
+fn going_on(c: Tally, at: usize) -> Progress
+    ensures { λ r. ⌜ r ≡ goingOn c at ⌝ }
+{
+    Progress {
+        over: false,
+        number: numbers::ACCEPTED,
+        at: at,
+        tally: c,
+    }
+}
+
+fn over(number: u64, at: usize, c: Tally) -> Progress
+    ensures { λ r. ⌜ r ≡ overAt number at c ⌝ }
+{
+    Progress {
+        over: true,
+        number: number,
+        at: at,
+        tally: c,
+    }
 }
 
 // Whether the line that ends here is a row, not the first, and has not as many fields as the first.
@@ -40,7 +65,7 @@ fn is_ragged(c: Tally, blank: bool) -> bool
     true
 }
 
-// The counts after a line, which is a row or is skipped.
+// The counts after a line, which is skipped, or is a row that is not ragged.
 fn with_line(c: Tally, skipped: bool) -> Tally
     requires { ⌜ (c .fields + 1 < 2 ^ 64) × (c .rows + 1 < 2 ^ 64) ⌝ }
     ensures { λ r. ⌜ r ≡ withLine c skipped ⌝ }
@@ -52,17 +77,10 @@ fn with_line(c: Tally, skipped: bool) -> Tally
             columns: c.columns,
         };
     }
-    if c.rows == 0 {
-        return Tally {
-            rows: c.rows + 1,
-            fields: 0,
-            columns: c.fields + 1,
-        };
-    }
     Tally {
         rows: c.rows + 1,
         fields: 0,
-        columns: c.columns,
+        columns: c.fields + 1,
     }
 }
 
@@ -72,9 +90,9 @@ fn after_comma(c: Tally, e: usize) -> Progress
     ensures { λ r. ⌜ r ≡ afterComma c e ⌝ }
 {
     if c.fields + 1 == MOST_FIELDS {
-        return Progress::Over(Answer::Refused(numbers::REFUSED_TOO_MANY_FIELDS, e));
+        return over(numbers::REFUSED_TOO_MANY_FIELDS, e, c);
     }
-    Progress::On(
+    going_on(
         Tally {
             rows: c.rows,
             fields: c.fields + 1,
@@ -82,53 +100,6 @@ fn after_comma(c: Tally, e: usize) -> Progress
         },
         e + 1,
     )
-}
-
-// A CR at place e, after the last field of a line.
-fn after_cr(text: &[u8], c: Tally, blank: bool, e: usize) -> Progress
-    requires { ⌜ (c .fields + 1 < 2 ^ 64) × (c .rows + 1 < 2 ^ 64) × (e < length (now text)) ⌝ }
-    ensures { λ r. ⌜ r ≡ afterCr (now (text .entry)) c blank e ⌝ }
-{
-    if is_ragged(c, blank) {
-        return Progress::Over(Answer::Refused(numbers::REFUSED_RAGGED_ROW, e));
-    }
-    let j = e + 1;
-    if j < text.len() {
-        if text[j] == 10 {
-            return Progress::On(with_line(c, blank), j + 1);
-        }
-    }
-    Progress::Over(Answer::Refused(numbers::REFUSED_NOT_CSV, j))
-}
-
-// The end of the text, at place e, after the last field of its last line.
-fn at_end(c: Tally, blank: bool, e: usize) -> Answer
-    requires { ⌜ (c .fields + 1 < 2 ^ 64) × (c .rows + 1 < 2 ^ 64) ⌝ }
-    ensures { λ r. ⌜ r ≡ atEnd c blank e ⌝ }
-{
-    if is_ragged(c, blank) {
-        return Answer::Refused(numbers::REFUSED_RAGGED_ROW, e);
-    }
-    let d = with_line(c, blank);
-    Answer::Counts(d.rows, d.columns)
-}
-
-// What follows a field that ends at place e.
-fn after_field(text: &[u8], c: Tally, blank: bool, e: usize) -> Progress
-    requires { ⌜ (c .fields + 1 < 2 ^ 64) × (c .rows + 1 < 2 ^ 64) ⌝ }
-    ensures { λ r. ⌜ r ≡ afterField (now (text .entry)) c blank e ⌝ }
-{
-    if e < text.len() {
-        let b = text[e];
-        if b == 44 {
-            return after_comma(c, e);
-        }
-        if b == 13 {
-            return after_cr(text, c, blank, e);
-        }
-        return Progress::Over(Answer::Refused(numbers::REFUSED_NOT_CSV, e));
-    }
-    Progress::Over(at_end(c, blank, e))
 }
 
 // Whether a field from place i to place e is the only one of a line of no bytes, if it ends its line.
@@ -141,6 +112,76 @@ fn is_blank(c: Tally, i: usize, e: usize) -> bool
     false
 }
 
+// A CR at place e, after the last field of a line, which started at place i.
+fn after_cr(text: &[u8], c: Tally, i: usize, e: usize) -> Progress
+    requires { ⌜ (c .fields + 1 < 2 ^ 64) × (c .rows + 1 < 2 ^ 64) × (e < length (now text)) ⌝ }
+    ensures { λ r. ⌜ r ≡ afterCr (now (text .entry)) c i e ⌝ }
+{
+    let blank = is_blank(c, i, e);
+    if is_ragged(c, blank) {
+        return over(numbers::REFUSED_RAGGED_ROW, e, c);
+    }
+    let j = e + 1;
+    if j < text.len() {
+        if text[j] == 10 {
+            return going_on(with_line(c, blank), j + 1);
+        }
+    }
+    over(numbers::REFUSED_NOT_CSV, j, c)
+}
+
+// The end of the text, at place e, after the last field of its last line, which started at place i.
+fn at_end(c: Tally, i: usize, e: usize) -> Progress
+    requires { ⌜ (c .fields + 1 < 2 ^ 64) × (c .rows + 1 < 2 ^ 64) ⌝ }
+    ensures { λ r. ⌜ r ≡ atEnd c i e ⌝ }
+{
+    let blank = is_blank(c, i, e);
+    if is_ragged(c, blank) {
+        return over(numbers::REFUSED_RAGGED_ROW, e, c);
+    }
+    over(numbers::ACCEPTED, e, with_line(c, blank))
+}
+
+// The byte at place e, after a field from place i.
+fn at_byte(text: &[u8], c: Tally, i: usize, e: usize) -> Progress
+    requires { ⌜ (c .fields + 1 < 2 ^ 64) × (c .rows + 1 < 2 ^ 64) × (e < length (now text)) ⌝ }
+    ensures { λ r. ⌜ r ≡ atByte (now (text .entry)) c i e ⌝ }
+{
+    let b = text[e];
+    if b == 44 {
+        return after_comma(c, e);
+    }
+    if b == 13 {
+        return after_cr(text, c, i, e);
+    }
+    over(numbers::REFUSED_NOT_CSV, e, c)
+}
+
+// What follows a field from place i to place e.
+fn after_field(text: &[u8], c: Tally, i: usize, e: usize) -> Progress
+    requires { ⌜ (c .fields + 1 < 2 ^ 64) × (c .rows + 1 < 2 ^ 64) ⌝ }
+    ensures { λ r. ⌜ r ≡ afterField (now (text .entry)) c i e ⌝ }
+{
+    if e < text.len() {
+        return at_byte(text, c, i, e);
+    }
+    at_end(c, i, e)
+}
+
+// A field without quotes that starts at place i, and what follows it: the faster way where the text's last byte is a control byte, as it is after a
+// line's end.
+fn plain_step(text: &[u8], c: Tally, i: usize) -> Progress
+    requires { ⌜ (c .fields + 1 < 2 ^ 64) × (c .rows + 1 < 2 ^ 64) ⌝ }
+    ensures { λ r. ⌜ r ≡ afterField (now (text .entry)) c i (plainEnd i (drop i (now (text .entry)))) ⌝ }
+{
+    if i < text.len() {
+        if text[text.len() - 1] < 32 {
+            return at_byte(text, c, i, csv_fields::run_end(text, i));
+        }
+    }
+    after_field(text, c, i, csv_fields::bounded_end(text, i))
+}
+
 // A field that starts at place i, and what follows it.
 fn step(text: &[u8], c: Tally, i: usize) -> Progress
     requires { ⌜ (c .fields + 1 < 2 ^ 64) × (c .rows + 1 < 2 ^ 64) ⌝ }
@@ -151,13 +192,23 @@ fn step(text: &[u8], c: Tally, i: usize) -> Progress
             let f = csv_fields::quoted_end(text, i + 1);
             let e = f.at;
             if f.whole {
-                return after_field(text, c, false, e);
+                return after_field(text, c, i, e);
             }
-            return Progress::Over(Answer::Refused(numbers::REFUSED_NOT_CSV, e));
+            return over(numbers::REFUSED_NOT_CSV, e, c);
         }
     }
-    let e = csv_fields::plain_end(text, i);
-    after_field(text, c, is_blank(c, i, e), e)
+    plain_step(text, c, i)
+}
+
+// The answer of a reading that is over.
+fn answer_of(p: Progress) -> Answer
+    ensures { λ r. ⌜ r ≡ answerOf p ⌝ }
+{
+    if p.number == numbers::ACCEPTED {
+        let c = p.tally;
+        return Answer::Counts(c.rows, c.columns);
+    }
+    Answer::Refused(p.number, p.at)
 }
 
 // The counts of rows and columns of a text, or its first fault.
@@ -171,12 +222,11 @@ pub fn read(text: &[u8]) -> Answer
     };
     let mut i: usize = 0;
     loop {
-        match step(text, c, i) {
-            Progress::On(d, j) => {
-                c = d;
-                i = j;
-            }
-            Progress::Over(a) => return a,
+        let p = step(text, c, i);
+        if p.over {
+            return answer_of(p);
         }
+        c = p.tally;
+        i = p.at;
     }
 }

@@ -8,7 +8,7 @@ use native.Mathlib.Numerals.{add-one}
 use lib.Dec.{eqb, ltb, leb}
 use lib.ListN.{length, drop, getD, drop-of-length-le}
 use lib.Seq.{drop-cons}
-use borrow.Author.Tests.{eq-eqb, ne-eqb, lt-ltb, le-ltb}
+use borrow.Author.Tests.{eq-eqb, ne-eqb, lt-ltb, le-ltb, lt-leb}
 use Rattle.csv_fields.specs.declared.FieldEnd.{FieldEnd}
 use Rattle.csv_fields.specs.Ends.{fieldEnd}
 use Rattle.csv_grammar.specs.declared.Span.{Span}
@@ -76,6 +76,11 @@ module _ (text : List ℕ) (e : ℕ) where
   after-end h = rw (le-ltb e (length text) h)
 
 -- ---- the next field
+
+-- before the text's end a field starts
+pub not-over : (inside : Bool) (i n : ℕ) → i < n → overAt inside i n ≡ false
+not-over true i n h = le-ltb n i (omega arith)
+not-over false i n h = lt-leb n i h
 
 module _ (text : List ℕ) (w : Cursor) (i : ℕ) (ei : i ≡ startOf text w) (f : Bool) (ef : f ≡ overAt (w .inside) i (length text)) where
   pub next-done : f ≡ true → Done ≡ nextOf text w

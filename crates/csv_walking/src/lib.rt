@@ -61,10 +61,13 @@ fn start_of(text: &[u8], w: Cursor) -> usize
 fn is_over(inside: bool, i: usize, n: usize) -> bool
     ensures { λ r. ⌜ r ≡ overAt inside i n ⌝ }
 {
+    if i < n {
+        return false;
+    }
     if inside {
         return n < i;
     }
-    n <= i
+    true
 }
 
 // The cursor after a field that ends at place e: past a comma, past the two bytes of a line's end, or at the text's end.

@@ -1,13 +1,14 @@
 -- `read` answers as the grammar says: its loop takes the automaton's steps, a field at a time.
 use Prim.Native.Nat.{ℕ, suc, _-_, _<_, _≤_}
 use mathlib.Core.Path.{_≡_, refl, sym, _∙_, subst, subst⁻¹}
+use mathlib.Core.Bool.{Bool}
 use native.Mathlib.Omega.{arith}
 use borrow.Author.Needs.{needs}
 use lib.ListN.{length}
 use Rattle.csv_grammar.specs.Faults.{Reads}
 use Rattle.csv_grammar.proofs.Automaton.{Fresh, readOf}
 use Rattle.csv_grammar.proofs.GrammarLaws.{reads}
-use Rattle.csv_reading.proofs.Reading.{readAt, Continues, continues}
+use Rattle.csv_reading.proofs.Reading.{readAt, ContinuesBy, Continues, continues}
 use Rattle.csv_reading.proofs.read.Statement.{statement}
 use Rattle.csv_reading.proofs.read.Tie as tie
 
@@ -34,26 +35,26 @@ came s =
 
 loop-less : tie.Need-loop-less Inv-loop μ-loop
 loop-less c =
-    let s = c .before .before .before in
+    let s = c .before .before in
     let l = s .before in
-    let t = subst (Continues (l .before .before .args .text .now) (l .loop .c) (l .loop .i)) (c .before .d .given .1) (came s) in
+    let t = subst (λ (x : Bool). ContinuesBy x (l .before .before .args .text .now) (l .loop .c) (l .loop .i) (s .step .result)) (c .before .if1 .left) (came s) in
     let v = l .loop .inv in
     omega (arith, t .1, t .2, v .1)
 
 loop-again : tie.Need-loop-again Inv-loop μ-loop
 loop-again c =
-    let s = c .before .before .before in
+    let s = c .before .before in
     let l = s .before in
-    let t = subst (Continues (l .before .before .args .text .now) (l .loop .c) (l .loop .i)) (c .before .d .given .1) (came s) in
+    let t = subst (λ (x : Bool). ContinuesBy x (l .before .before .args .text .now) (l .loop .c) (l .loop .i) (s .step .result)) (c .before .if1 .left) (came s) in
     (l .loop .inv .0 ∙ t .0, t .2, t .3, t .4)
 
 returns : tie.Need-returns Inv-loop μ-loop
 returns c =
-    let s = c .before .before .before in
+    let s = c .before .before in
     let l = s .before in
     let g = l .before .before .args in
-    let t = subst (Continues (g .text .now) (l .loop .c) (l .loop .i)) (c .before .a .given .1) (came s) in
-    subst (Reads (g .text .now)) (l .loop .inv .0 ∙ t) (reads (g .text .now))
+    let t = subst (λ (x : Bool). ContinuesBy x (g .text .now) (l .loop .c) (l .loop .i) (s .step .result)) (c .before .if1 .taken) (came s) in
+    subst (Reads (g .text .now)) (l .loop .inv .0 ∙ (t ∙ sym (c .answer-of .ensures))) (reads (g .text .now))
 
 pub read-spec : {M : Type 1} → statement M
 read-spec =
@@ -63,8 +64,7 @@ read-spec =
     μ-loop
     loop-holds
     step-requires
-    (λ c. search needs)
+    (λ c κs. search needs)
+    returns
     loop-less
-    loop-again
-    (λ c. search needs)
-    returns)
+    loop-again)
