@@ -16,13 +16,13 @@
 
 #include <string.h>
 
-enum { LENGTH = 10000000, LONGEST_ROW = 64, SHORT = 200, ROW_SECONDS = 1 };
+enum { LENGTH = 10000000, LONGEST_ROW = 128, SHORT = 200, ROW_SECONDS = 1 };
 
 typedef uint64_t reader(const uint8_t *, size_t, uint64_t *);
 
 /* ---- The texts ---- */
 
-static uint8_t text[LENGTH + LONGEST_ROW];
+static uint8_t text[LENGTH + LENGTH / 10 + LONGEST_ROW];
 static size_t text_len;
 
 static void append(const char *words)
@@ -61,6 +61,22 @@ static void append_quoted(void)
     append_number(10 * (3 + random_below(10)));
     append("g\",\"");
     append_number(1 + random_below(400));
+    append("\"\r\n");
+}
+
+/* Ten rows of one long field, without quotes, and in quotes, with one word in twenty in doubled quotes. */
+static void append_long_plain(void)
+{
+    for (size_t end = text_len + LENGTH / 10 - LONGEST_ROW; text_len < end;)
+        append("white loaf 500g; sliced. ");
+    append("\r\n");
+}
+
+static void append_long_quoted(void)
+{
+    append("\"");
+    for (size_t end = text_len + LENGTH / 10 - LONGEST_ROW; text_len < end;)
+        append("roll \"\"poppy\"\" 60g, a dozen for the shop at Podil, baked early. white loaf 500g, sliced, for the shop at the station. ");
     append("\"\r\n");
 }
 
@@ -197,6 +213,8 @@ static const struct row {
     {"walk-quoted", "walk over all fields of quoted orders", append_quoted, WALK},
     {"content-plain", "contents of all fields of plain orders (a byte of the fields)", append_plain, CONTENTS},
     {"content-quoted", "contents of all fields of quoted orders (a byte of the fields)", append_quoted, CONTENTS},
+    {"content-long-plain", "content of a field of 1 MB", append_long_plain, CONTENTS},
+    {"content-long-quoted", "content of a field of 1 MB in quotes, one word in twenty in doubled quotes", append_long_quoted, CONTENTS},
 };
 
 enum { ROWS = sizeof rows / sizeof rows[0] };
@@ -206,7 +224,7 @@ __attribute__((noinline, noclone)) uint64_t measured(reader *read, enum work wor
 
 uint64_t measured(reader *read, enum work work)
 {
-    static uint8_t target[LONGEST_ROW];
+    static uint8_t target[LENGTH / 10];
     uint64_t words[2], cursor[2] = {0, 0}, sum = 0, written;
 
     switch (work) {

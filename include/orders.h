@@ -69,10 +69,10 @@ extern "C" {
 /* What orders_read and orders_content return; the numbers follow those of strumok.h. */
 enum {
     ORDERS_ACCEPTED = 0,
-    ORDERS_REFUSED_TARGET_SHORTER = 5, /* the target is shorter than the content */
-    ORDERS_REFUSED_GRAMMAR = 11,       /* the text, or the part, is not of the grammar */
-    ORDERS_REFUSED_FIELD_COUNT = 12,   /* a row whose field count differs from the first row's */
-    ORDERS_REFUSED_FIELDS_ABOVE = 13   /* a row of more than 32 fields */
+    ORDERS_REFUSED_TARGET_SHORTER = 5,  /* the target is shorter than the content */
+    ORDERS_REFUSED_NOT_CSV = 11,        /* the text, or the part, is not of the grammar */
+    ORDERS_REFUSED_RAGGED_ROW = 12,     /* a row whose field count differs from the first row's */
+    ORDERS_REFUSED_TOO_MANY_FIELDS = 13 /* a row of more than 32 fields */
 };
 
 /*
@@ -112,7 +112,8 @@ uint64_t orders_content(const uint8_t *part, size_t part_len, uint8_t *target, s
  * the cursor is moved on, with 1 in cursor[1] where another field of the same row follows and 0 where the row has ended. Returns 0 where no
  * field is left, with part and cursor as they were.
  *
- * On a text that is refused, and with a cursor that no call left, what it hands over means nothing, but is a part of the text still.
+ * On a text that is refused, and from a cursor that no call left, what it hands over means nothing, but is a part of the text still, and the
+ * walk ends. Any word but 0 in cursor[1] is taken for 1.
  */
 STRUMOK_MUST_USE STRUMOK_NONNULL
 uint64_t orders_next(const uint8_t *text, size_t text_len, uint64_t cursor[2], uint64_t part[2]);

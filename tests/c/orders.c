@@ -99,8 +99,8 @@ static void expect_content(const char *part, size_t length, size_t target_len, u
 
 static void test_names(void)
 {
-    expect(ORDERS_ACCEPTED == 0 && ORDERS_REFUSED_TARGET_SHORTER == 5 && ORDERS_REFUSED_GRAMMAR == 11 && ORDERS_REFUSED_FIELD_COUNT == 12
-               && ORDERS_REFUSED_FIELDS_ABOVE == 13,
+    expect(ORDERS_ACCEPTED == 0 && ORDERS_REFUSED_TARGET_SHORTER == 5 && ORDERS_REFUSED_NOT_CSV == 11 && ORDERS_REFUSED_RAGGED_ROW == 12
+               && ORDERS_REFUSED_TOO_MANY_FIELDS == 13,
            "the names of the numbers");
     expect(ORDERS_MOST_FIELDS == 32, "the most fields of a row");
 }

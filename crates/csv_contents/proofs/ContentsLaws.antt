@@ -7,7 +7,7 @@ use mathlib.Core.List.{List, [], _∷_, _++_}
 use native.Mathlib.Nat.{not-le-of-lt}
 use native.Mathlib.Omega.{arith}
 use lib.Dec.{T, eqb, ltb}
-use lib.ListN.{length, drop}
+use lib.ListN.{length, drop, length-append}
 use borrow.Author.Tests.{eqb-true, ne-eqb, le-ltb, ltb-true, ltb-false, not-true, not-false}
 use Rattle.refusals.specs.Numbers.{accepted}
 use Rattle.refusals.specs.Tests.{returned}
@@ -46,6 +46,18 @@ escape (Unescaped.two-quotes p) = G.InQuotes.two-quotes (escape p)
 only-fields : {f c : List ℕ} → Content f c → G.Field f
 only-fields (Content.non-escaped p) = G.Field.non-escaped p
 only-fields (Content.escaped p) = G.Field.escaped (escape p)
+
+unescaped-no-longer : {s c : List ℕ} → Unescaped s c → length c ≤ length s
+unescaped-no-longer Unescaped.none = omega arith
+unescaped-no-longer (Unescaped.textdata h p) = let l = unescaped-no-longer p in omega arith
+unescaped-no-longer (Unescaped.comma p) = let l = unescaped-no-longer p in omega arith
+unescaped-no-longer (Unescaped.cr p) = let l = unescaped-no-longer p in omega arith
+unescaped-no-longer (Unescaped.lf p) = let l = unescaped-no-longer p in omega arith
+unescaped-no-longer (Unescaped.two-quotes p) = let l = unescaped-no-longer p in omega arith
+
+no-longer : {f c : List ℕ} → Content f c → length c ≤ length f
+no-longer (Content.non-escaped p) = omega arith
+no-longer (Content.escaped {s = s} p) = let l = unescaped-no-longer p in omega (arith, length-append s (34 ∷ []))
 
 -- a byte that is no quote, before the closing one
 unquoted-byte : (b : ℕ) (s c : List ℕ) → (b ≡ 34 → ⊥) → unquoted (s ++ (34 ∷ [])) ≡ c → unquoted (b ∷ (s ++ (34 ∷ []))) ≡ b ∷ c
@@ -145,6 +157,7 @@ contents-laws =
       has-content = λ f h. has-content h;
       one-content = λ f c d p q. sym (content-is p) ∙ content-is q;
       only-fields = λ f c p. only-fields p;
+      no-longer = λ f c p. no-longer p;
       refuses = refuses;
       refused-place = refused-place;
       writes-nothing = writes-nothing;

@@ -68,18 +68,28 @@ inside-more t i h l e =
     let k = before-quote t i h l n in
     (k, inside-on t i h e, ap length (unquoted-on t i k n) ∙ omega arith)
 
--- the bytes up to a place, and one more
-pub run-more : (t : List ℕ) (i q : ℕ) → i ≤ q → q + 1 < length t → (getD t q 0 ≡ 34 → ⊥) → unquoted (drop i t) ≡ take (q - i) (drop i t) ++ unquoted (drop q t) →
-    unquoted (drop i t) ≡ take (q + 1 - i) (drop i t) ++ unquoted (drop (q + 1) t)
-run-more t i q h l n e =
+-- the bytes from one place to another are the content's own, and the other is within the part
+abbrev pub RunsTo : (t : List ℕ) (i q : ℕ) → Type 0
+RunsTo t i q = (unquoted (drop i t) ≡ take (q - i) (drop i t) ++ unquoted (drop q t)) × (i ≤ q) × (q < length t)
+
+pub runs-none : (t : List ℕ) (i : ℕ) → i < length t → RunsTo t i i
+runs-none t i h = let n : i - i ≡ 0 = omega arith in (rw n, omega arith, h)
+
+-- one byte more, which is no quote, where the last one is
+pub runs-more : (t : List ℕ) (i q : ℕ) → getD t (length t - 1) 0 ≡ 34 → RunsTo t i q → (getD t q 0 ≡ 34 → ⊥) → RunsTo t i (q + 1)
+runs-more t i q b r n =
+    let h = r .1 in
+    let l = before-quote t q (r .2) b n in
     let k : q + 1 - i ≡ suc (q - i) = omega arith in
     let s : q - i < length (drop i t) = omega (arith, length-drop i t) in
     let m : i + (q - i) ≡ q = omega arith in
-    let b : getD (drop i t) (q - i) 0 ≡ getD t q 0 = getD-drop i t (q - i) 0 ∙ ap (λ (x : ℕ). getD t x 0) m in
-    e ∙ (ap (λ (x : List ℕ). take (q - i) (drop i t) ++ x) (unquoted-on t q l n) ∙ sym (rw (k, take-suc (drop i t) (q - i) 0 s, b) (append-assoc (take (q - i) (drop i t)) (getD t q 0 ∷ []) (unquoted (drop (q + 1) t)))))
-
-pub run-none : (t : List ℕ) (i : ℕ) → unquoted (drop i t) ≡ take (i - i) (drop i t) ++ unquoted (drop i t)
-run-none t i = let n : i - i ≡ 0 = omega arith in rw n
+    let d : getD (drop i t) (q - i) 0 ≡ getD t q 0 = getD-drop i t (q - i) 0 ∙ ap (λ (x : ℕ). getD t x 0) m in (
+      r .0
+          ∙ (ap (λ (x : List ℕ). take (q - i) (drop i t) ++ x) (unquoted-on t q l n)
+          ∙ sym (rw (k, take-suc (drop i t) (q - i) 0 s, d) (append-assoc (take (q - i) (drop i t)) (getD t q 0 ∷ []) (unquoted (drop (q + 1) t))))),
+      omega arith,
+      l,
+    )
 
 -- the bytes up to a quote, with it but for the closing one, and what follows
 pub quote-run : (t : List ℕ) (i q k : ℕ) → i ≤ q → q < length t → getD t q 0 ≡ 34 → unquoted (drop i t) ≡ take (q - i) (drop i t) ++ unquoted (drop q t) → k ≡ runStop q (length t) →

@@ -13,6 +13,8 @@ pub record ContentsLaws : Type 0 where
   pub has-content : (f : List ℕ) → Field f → (c : List ℕ) × Content f c
   pub one-content : (f c d : List ℕ) → Content f c → Content f d → c ≡ d
   pub only-fields : (f c : List ℕ) → Content f c → Field f
+  -- a target as long as the field has room for it
+  pub no-longer : (f c : List ℕ) → Content f c → length c ≤ length f
   -- demand 1: "11 for a part that is no field, then 5 for a target shorter than the content", "both at place 0"
   pub refuses : (part : List ℕ) (len : ℕ) → RefusesInOrder (numberOf (answerOf part len)) (contentLines part len) (11 ∷ 5 ∷ [])
   pub refused-place : (part : List ℕ) (len : ℕ) → (numberOf (answerOf part len) ≡ 0 → ⊥) → valuesOf (answerOf part len) ≡ 0 ∷ []

@@ -106,10 +106,16 @@ fn quote_from(part: &[u8], from: usize) -> usize
     ensures { λ r. ⌜ QuoteAt (now (part .entry)) from r ⌝ }
 {
     let mut i = from;
-    while part[i] != 34 {
-        i += 1;
+    loop {
+        if part[i] == 34 {
+            return i;
+        }
+        let j = i + 1;
+        if part[j] == 34 {
+            return j;
+        }
+        i = j + 1;
     }
-    i
 }
 
 // The bytes of a part from place i up to place k, to place o of a target.

@@ -38,7 +38,7 @@ pub fn is_textdata(b: u8) -> bool
     true
 }
 
-// Whether a byte may stand inside quotes, and is no quote.
+// Whether a byte may stand inside quotes, and is no quote. The commonest bytes are tested first.
 pub fn is_inside(b: u8) -> bool
     ensures { λ r. ⌜ r ≡ isInside b ⌝ }
 {
@@ -53,13 +53,13 @@ pub fn is_inside(b: u8) -> bool
     if b == 34 {
         return false;
     }
-    if b == 13 {
-        return true;
-    }
-    if b == 10 {
-        return true;
-    }
     if b < 32 {
+        if b == 13 {
+            return true;
+        }
+        if b == 10 {
+            return true;
+        }
         return false;
     }
     if b == 127 {

@@ -16,13 +16,13 @@ returns-3 : tie.Need-returns-3
 returns-3 c = sym (inside-no _ (inl (c .if4 .taken)))
 
 returns-4 : tie.Need-returns-4
-returns-4 c = sym (inside-other _ (inr (inl (c .if5 .taken))))
+returns-4 c = sym (inside-other _ (inr (inl (c .if6 .taken))))
 
 returns-5 : tie.Need-returns-5
-returns-5 c = sym (inside-other _ (inr (inr (c .if6 .taken))))
+returns-5 c = sym (inside-other _ (inr (inr (c .if7 .taken))))
 
 returns-6 : tie.Need-returns-6
-returns-6 c = sym (inside-no _ (inr (inr (c .if7 .taken, omega arith, omega arith))))
+returns-6 c = sym (inside-no _ (inr (inr (c .before .before .if5 .taken, c .before .if6 .left, c .if7 .left))))
 
 returns-7 : tie.Need-returns-7
 returns-7 c = sym (inside-no _ (inr (inl (c .if8 .taken))))
