@@ -14,6 +14,7 @@ use Rattle.refusals.specs.Tests.{returned}
 use Rattle.refusals.specs.Lines.{RefusesInOrder}
 use Rattle.refusals.proofs.Lines.{Decides, DecideAll, refuses-in-order}
 use Rattle.csv_grammar.specs.Grammar as G
+use Rattle.csv_fields.specs.Ends.{isTextData, isInside, plainEnd, quotedEnd, fieldEnd}
 use Rattle.csv_fields.proofs.Bytes.{textdata, textdata-bounds}
 use Rattle.csv_contents.specs.declared.Written.{Written}
 use Rattle.csv_contents.specs.declared.Written.the-variants.{Bytes, Refused}
@@ -152,6 +153,7 @@ writes-only part target e =
     by false y f = absurd (f .0 (λ h. true≢false (sym (field-is h) ∙ y)))
 
 pub contents-laws : ContentsLaws
+unfolding unquoted contentOf isField answerOf targetOf fieldEnd quotedEnd plainEnd isInside isTextData
 contents-laws =
     record {
       has-content = λ f h. has-content h;
@@ -164,4 +166,8 @@ contents-laws =
       writes = writes;
       writes-only = writes-only;
       field-accepted = field-accepted;
+      worked-short = refl;
+      worked-answer = refl;
+      worked-target = refl;
+      worked-no-field = refl;
     }

@@ -5,7 +5,7 @@ use mathlib.Core.List.{List, [], _∷_, _++_}
 use lib.ListN.{length, drop}
 use Rattle.refusals.specs.Lines.{RefusesInOrder}
 use Rattle.csv_grammar.specs.Grammar.{Field}
-use Rattle.csv_contents.specs.declared.Written.the-variants.{Bytes}
+use Rattle.csv_contents.specs.declared.Written.the-variants.{Bytes, Refused}
 use Rattle.csv_contents.specs.Contents.{Content, answerOf, targetOf, numberOf, valuesOf, contentLines}
 
 pub record ContentsLaws : Type 0 where
@@ -25,3 +25,8 @@ pub record ContentsLaws : Type 0 where
       (c : List ℕ) × Content part c × (valuesOf (answerOf part (length target)) ≡ length c ∷ []) × (targetOf part target ≡ c ++ drop (length c) target)
   -- a field is never refused with 11
   pub field-accepted : (f : List ℕ) (len : ℕ) → Field f → numberOf (answerOf f len) ≡ 11 → ⊥
+  -- in numerals: the field "b""b" with a target of 2 bytes and one of 4, and the part a" with one of 4
+  pub worked-short : answerOf (34 ∷ 98 ∷ 34 ∷ 34 ∷ 98 ∷ 34 ∷ []) 2 ≡ Refused 5 0
+  pub worked-answer : answerOf (34 ∷ 98 ∷ 34 ∷ 34 ∷ 98 ∷ 34 ∷ []) 4 ≡ Bytes 3
+  pub worked-target : targetOf (34 ∷ 98 ∷ 34 ∷ 34 ∷ 98 ∷ 34 ∷ []) (1 ∷ 2 ∷ 3 ∷ 4 ∷ []) ≡ 98 ∷ 34 ∷ 98 ∷ 4 ∷ []
+  pub worked-no-field : answerOf (97 ∷ 34 ∷ []) 4 ≡ Refused 11 0

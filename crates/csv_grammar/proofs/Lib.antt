@@ -9,3 +9,4 @@ pub mod Verdict
 pub mod Even
 pub mod Places
 pub mod GrammarLaws
+pub mod WorkedTexts

@@ -4,3 +4,4 @@ pub mod Table
 pub mod Faults
 pub mod Places
 pub mod GrammarLaws
+pub mod WorkedTexts
