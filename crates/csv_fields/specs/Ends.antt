@@ -3,9 +3,10 @@ use Prim.Native.Nat.{ℕ, suc, _<_, _≤_}
 use mathlib.Core.Path.{_≡_}
 use mathlib.Core.Bool.{Bool, true, false, cond, _&&_, _||_}
 use mathlib.Core.List.{List, [], _∷_}
-use lib.Dec.{eqb, leb}
+use lib.Dec.{eqb, ltb, leb}
 use lib.ListN.{length, drop, getD}
 use Rattle.csv_fields.specs.declared.FieldEnd.{FieldEnd}
+use Rattle.csv_fields.specs.declared.PlainEnd.{PlainEnd}
 
 -- whether a byte is TEXTDATA, as the grammar has it
 unfoldable pub isTextData : ℕ → Bool
@@ -19,6 +20,10 @@ isInside b = isTextData b || (eqb b 44 || (eqb b 13 || eqb b 10))
 unfoldable pub plainEnd : (i : ℕ) (t : List ℕ) → ℕ
 plainEnd i [] = i
 plainEnd i (b ∷ t) = cond (isTextData b) (plainEnd (suc i) t) i
+
+-- the same of a text from place i on, and whether another byte stands there
+abbrev pub plainEndIn : (text : List ℕ) (i : ℕ) → PlainEnd
+plainEndIn text i = record { at = plainEnd i (drop i text); within = ltb (plainEnd i (drop i text)) (length text) }
 
 -- the end of a field in quotes, where t stands at place i, inside the quotes (false) or after a quote inside them (true)
 unfoldable pub quotedEnd : Bool → (i : ℕ) (t : List ℕ) → FieldEnd

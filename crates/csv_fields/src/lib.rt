@@ -3,12 +3,18 @@ ghost use mathlib.Core.Path.{_≡_};
 ghost use mathlib.Core.Bool.{false};
 ghost use Prim.Native.Nat.{_<_, _-_};
 ghost use lib.ListN.{length, drop, getD};
-ghost use Rattle.csv_fields.specs.Ends.{isTextData, isInside, plainEnd, quotedEnd, fieldEnd, InsideEnd};
+ghost use Rattle.csv_fields.specs.Ends.{isTextData, isInside, plainEnd, plainEndIn, quotedEnd, fieldEnd, InsideEnd};
 
 // Where the bytes that belong to a field end, and whether they are a field by then.
 pub struct FieldEnd {
     pub at: usize,
     pub whole: bool,
+}
+
+// Where a run of TEXTDATA ends, and whether another byte stands there.
+pub struct PlainEnd {
+    pub at: usize,
+    pub within: bool,
 }
 
 // Whether a byte is TEXTDATA. The commonest bytes are tested first.
@@ -69,7 +75,7 @@ pub fn is_inside(b: u8) -> bool
 }
 
 // The end of a run of TEXTDATA in a text whose last byte is none, so that no byte asks for the text's end.
-pub fn run_end(text: &[u8], from: usize) -> usize
+fn run_end(text: &[u8], from: usize) -> usize
     requires { ⌜ (from < length (now text)) × (getD (now text) (length (now text) - 1) 0 < 32) ⌝ }
     ensures { λ r. ⌜ (r ≡ plainEnd from (drop from (now (text .entry)))) × (r < length (now (text .entry))) ⌝ }
 {
@@ -87,7 +93,7 @@ pub fn run_end(text: &[u8], from: usize) -> usize
 }
 
 // The end of a run of TEXTDATA in any text.
-pub fn bounded_end(text: &[u8], from: usize) -> usize
+fn bounded_end(text: &[u8], from: usize) -> usize
     ensures { λ r. ⌜ r ≡ plainEnd from (drop from (now (text .entry))) ⌝ }
 {
     let mut i = from;
@@ -101,15 +107,22 @@ pub fn bounded_end(text: &[u8], from: usize) -> usize
 }
 
 // The end of a run of TEXTDATA: the faster way where the text's last byte is a control byte, as it is after a line's end.
-pub fn plain_end(text: &[u8], from: usize) -> usize
-    ensures { λ r. ⌜ r ≡ plainEnd from (drop from (now (text .entry))) ⌝ }
+pub fn plain_end(text: &[u8], from: usize) -> PlainEnd
+    ensures { λ r. ⌜ r ≡ plainEndIn (now (text .entry)) from ⌝ }
 {
     if from < text.len() {
         if text[text.len() - 1] < 32 {
-            return run_end(text, from);
+            return PlainEnd {
+                at: run_end(text, from),
+                within: true,
+            };
         }
     }
-    bounded_end(text, from)
+    let e = bounded_end(text, from);
+    PlainEnd {
+        at: e,
+        within: e < text.len(),
+    }
 }
 
 // The end of a run of bytes inside quotes.
@@ -169,8 +182,9 @@ pub fn field_end(text: &[u8], from: usize) -> FieldEnd
             return quoted_end(text, from + 1);
         }
     }
+    let p = plain_end(text, from);
     FieldEnd {
-        at: plain_end(text, from),
+        at: p.at,
         whole: true,
     }
 }

@@ -1,8 +1,8 @@
 // Reading RFC 4180 text: the counts of its rows and columns, or its first fault. The reading goes field by field.
 ghost use mathlib.Core.Path.{_≡_};
 ghost use Prim.Native.Nat.{_+_, _<_, _^_};
-ghost use lib.ListN.{length, drop};
-ghost use Rattle.csv_fields.specs.Ends.{plainEnd};
+ghost use lib.Dec.{ltb};
+ghost use lib.ListN.{length};
 ghost use Rattle.csv_grammar.specs.Faults.{Reads};
 ghost use Rattle.csv_reading.specs.Steps.{goingOn, overAt, answerOf, ragged, withLine, afterComma, blankFrom, afterCr, atEnd, atByte, afterField, stepOf};
 use csv_grammar::Answer;
@@ -157,29 +157,15 @@ fn at_byte(text: &[u8], c: Tally, i: usize, e: usize) -> Progress
     over(numbers::REFUSED_NOT_CSV, e, c)
 }
 
-// What follows a field from place i to place e.
-fn after_field(text: &[u8], c: Tally, i: usize, e: usize) -> Progress
-    requires { ⌜ (c .fields + 1 < 2 ^ 64) × (c .rows + 1 < 2 ^ 64) ⌝ }
+// What follows a field from place i to place e, which is within the text or its end.
+fn after_field(text: &[u8], c: Tally, i: usize, e: usize, within: bool) -> Progress
+    requires { ⌜ (c .fields + 1 < 2 ^ 64) × (c .rows + 1 < 2 ^ 64) × (within ≡ ltb e (length (now text))) ⌝ }
     ensures { λ r. ⌜ r ≡ afterField (now (text .entry)) c i e ⌝ }
 {
-    if e < text.len() {
+    if within {
         return at_byte(text, c, i, e);
     }
     at_end(c, i, e)
-}
-
-// A field without quotes that starts at place i, and what follows it: the faster way where the text's last byte is a control byte, as it is after a
-// line's end.
-fn plain_step(text: &[u8], c: Tally, i: usize) -> Progress
-    requires { ⌜ (c .fields + 1 < 2 ^ 64) × (c .rows + 1 < 2 ^ 64) ⌝ }
-    ensures { λ r. ⌜ r ≡ afterField (now (text .entry)) c i (plainEnd i (drop i (now (text .entry)))) ⌝ }
-{
-    if i < text.len() {
-        if text[text.len() - 1] < 32 {
-            return at_byte(text, c, i, csv_fields::run_end(text, i));
-        }
-    }
-    after_field(text, c, i, csv_fields::bounded_end(text, i))
 }
 
 // A field that starts at place i, and what follows it.
@@ -192,12 +178,13 @@ fn step(text: &[u8], c: Tally, i: usize) -> Progress
             let f = csv_fields::quoted_end(text, i + 1);
             let e = f.at;
             if f.whole {
-                return after_field(text, c, i, e);
+                return after_field(text, c, i, e, e < text.len());
             }
             return over(numbers::REFUSED_NOT_CSV, e, c);
         }
     }
-    plain_step(text, c, i)
+    let p = csv_fields::plain_end(text, i);
+    after_field(text, c, i, p.at, p.within)
 }
 
 // The answer of a reading that is over.
