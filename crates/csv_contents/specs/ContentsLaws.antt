@@ -25,7 +25,7 @@ pub record ContentsLaws : Type 0 where
       (c : List ℕ) × Content part c × (valuesOf (answerOf part (length target)) ≡ length c ∷ []) × (targetOf part target ≡ c ++ drop (length c) target)
   -- a field is never refused with 11
   pub field-accepted : (f : List ℕ) (len : ℕ) → Field f → numberOf (answerOf f len) ≡ 11 → ⊥
-  -- in numerals: the field "b""b" with a target of 2 bytes and one of 4, and the part a" with one of 4
+  -- in numerals: a field of two letters b with a doubled quote between, and targets of 2 and 4 bytes; and a part that has a quote after a letter
   pub worked-short : answerOf (34 ∷ 98 ∷ 34 ∷ 34 ∷ 98 ∷ 34 ∷ []) 2 ≡ Refused 5 0
   pub worked-answer : answerOf (34 ∷ 98 ∷ 34 ∷ 34 ∷ 98 ∷ 34 ∷ []) 4 ≡ Bytes 3
   pub worked-target : targetOf (34 ∷ 98 ∷ 34 ∷ 34 ∷ 98 ∷ 34 ∷ []) (1 ∷ 2 ∷ 3 ∷ 4 ∷ []) ≡ 98 ∷ 34 ∷ 98 ∷ 4 ∷ []

@@ -49,7 +49,7 @@ span start end = record { start = start; end = end }
 pub record WorkedTexts : Type 0 where
   pub accepted-rows : AllRead acceptedRows
   pub refused-rows : AllRead refusedRows
-  -- the text: a,"b""b" CR LF CR LF b, and the places of its four fields
+  -- two rows of two fields, with a line of no bytes between; the second field has a doubled quote, and the last one has no bytes
   pub division : Text (97 ∷ 44 ∷ 34 ∷ 98 ∷ 34 ∷ 34 ∷ 98 ∷ 34 ∷ 13 ∷ 10 ∷ 13 ∷ 10 ∷ 98 ∷ 44 ∷ []) (((97 ∷ []) ∷ (34 ∷ 98 ∷ 34 ∷ 34 ∷ 98 ∷ 34 ∷ []) ∷ []) ∷ ([] ∷ []) ∷ []) ((98 ∷ []) ∷ [] ∷ [])
   pub places :
       spansOf (((97 ∷ []) ∷ (34 ∷ 98 ∷ 34 ∷ 34 ∷ 98 ∷ 34 ∷ []) ∷ []) ∷ ([] ∷ []) ∷ []) ((98 ∷ []) ∷ [] ∷ [])
