@@ -18,8 +18,8 @@
  * A line of no bytes is skipped, also the one behind a last CR LF; every other line is a row. A row has at most 32 fields, and as many as
  * the first row. Rows, columns and places are counted from 0; a place is that of a byte in the text, and its end is the place text_len.
  *
- * orders_read and orders_content return ORDERS_ACCEPTED or the number of a refusal. A refused text has no parts, and a refused content
- * leaves the target as it was. Every text, part, row, column and cursor has its answer; none need be looked at beforehand.
+ * orders_read and orders_content return ORDERS_ACCEPTED or the number of a refusal. orders_part finds nothing in a refused text, and a refused
+ * content leaves the target as it was. Every text, part, row, column and cursor has its answer; none need be looked at beforehand.
  *
  * All that is proved rests on what C does not check:
  *   - answer, part and cursor are two words each, aligned as a uint64_t is, and so is the one word of written;
@@ -109,11 +109,11 @@ uint64_t orders_content(const uint8_t *part, size_t part_len, uint8_t *target, s
 /*
  * Walks over the fields of a text that orders_read accepts, row by row, in one pass. The first call is given the cursor {0, 0}, each later one
  * what the last one left there. Returns 1 where there was a field: part is the place where it starts and its length, quotes included, and
- * the cursor is moved on, with 1 in cursor[1] where another field of the same row follows and 0 where the row has ended. Returns 0 where no
- * field is left, with part and cursor as they were.
+ * the cursor is moved on; cursor[1] is then odd where another field of the same row follows, and even where the row has ended. Returns 0 where
+ * no field is left, with part and cursor as they were. The content of the field is that of the part text + part[0], of part[1] bytes.
  *
  * On a text that is refused, and from a cursor that no call left, what it hands over means nothing, but is a part of the text still, and the
- * walk ends. Any word but 0 in cursor[1] is taken for 1.
+ * walk ends.
  */
 STRUMOK_MUST_USE STRUMOK_NONNULL
 uint64_t orders_next(const uint8_t *text, size_t text_len, uint64_t cursor[2], uint64_t part[2]);

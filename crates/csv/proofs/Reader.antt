@@ -1,12 +1,13 @@
 -- Document 02, item 1: its proof.
-use Prim.Native.Nat.{ℕ, _<_}
-use mathlib.Core.Path.{_≡_, refl, sym, subst, subst⁻¹}
+use Prim.Native.Nat.{ℕ}
+use mathlib.Core.Path.{_≡_, refl, ap, _∙_}
 use mathlib.Core.List.{List, [], _∷_}
-use Rattle.refusals.specs.Lines.{NumberOfFirst, NoneApplies}
 use Rattle.refusals.proofs.Lines.{none-applies}
 use Rattle.csv_grammar.specs.declared.Answer.{Answer}
 use Rattle.csv_grammar.specs.declared.Answer.the-variants.{Counts, Refused}
-use Rattle.csv_grammar.specs.Faults.{faultLines, numberOf, valuesOf, Reads}
+use Rattle.csv_grammar.specs.Faults.{faultLines, Reads}
+use lib.ListN.{length}
+use Rattle.csv_grammar.specs.Table.{tableOf, columnsOf}
 use Rattle.csv_grammar.proofs.Automaton.{readOf}
 use Rattle.csv_grammar.proofs.GrammarLaws.{grammar-laws, reads}
 use Rattle.csv_fields.proofs.FieldsLaws.{fields-laws}
@@ -14,24 +15,22 @@ use Rattle.csv_walking.proofs.WalkingLaws.{walking-laws}
 use Rattle.csv_contents.proofs.ContentsLaws.{contents-laws}
 use Rattle.csv.specs.Reader.{ReadingRefuses, Reader}
 
--- a list of one
-one : {p q : ℕ} → _≡_ {A = List ℕ} (p ∷ []) (q ∷ []) → p ≡ q
-one e = cc
-
 reading : (t : List ℕ) (a : Answer) → Reads t a → ReadingRefuses t a
 reading t (Counts rows columns) h =
     record {
       order = λ p. refl;
-      earliest = λ p n. absurd (n refl);
-      first = λ p n. absurd (n refl);
+      refuses = λ n. absurd (n refl);
+      counts = λ e ls l x. let u = grammar-laws .one-division t (h .1) ls (h .2) l (h .3) x in
+          let w : tableOf (h .1) (h .2) ≡ tableOf ls l = λ j. tableOf (u .0 j) (u .1 j) in
+          λ j. (h .4 ∙ ap length w) j ∷ (h .5 ∙ ap columnsOf w) j ∷ [];
       accepts = λ n. refl;
       accepts-only = λ e. h .0;
     }
 reading t (Refused number place) h =
     record {
       order = λ p. refl;
-      earliest = λ p n e q l. h .0 q (subst⁻¹ (λ (x : ℕ). q < x) (one e) l);
-      first = λ p n e. subst (λ (x : ℕ). NumberOfFirst number (faultLines t x)) (one e) (h .1);
+      refuses = λ n. (place, refl, h .0, h .1);
+      counts = λ e. absurd (h .2 e);
       accepts = λ n. none-applies number (faultLines t place) (h .1) (n place);
       accepts-only = λ e. absurd (h .2 e);
     }

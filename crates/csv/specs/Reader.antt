@@ -6,6 +6,9 @@ use mathlib.Core.List.{List, [], _∷_}
 use Rattle.refusals.specs.Lines.{numbersOf, NumberOfFirst, NoneApplies}
 use Rattle.csv_grammar.specs.declared.Answer.{Answer}
 use Rattle.csv_grammar.specs.Faults.{faultLines, numberOf, valuesOf, Reads}
+use lib.ListN.{length}
+use Rattle.csv_grammar.specs.Grammar.{Text}
+use Rattle.csv_grammar.specs.Table.{tableOf, columnsOf}
 use Rattle.csv_grammar.specs.GrammarLaws.{GrammarLaws}
 use Rattle.csv_fields.specs.FieldsLaws.{FieldsLaws}
 use Rattle.csv_walking.specs.Parts.{FieldAt}
@@ -17,8 +20,13 @@ use Rattle.csv_contents.specs.ContentsLaws.{ContentsLaws}
 pub record ReadingRefuses (t : List ℕ) (a : Answer) : Type 0 where
   pub order : (p : ℕ) → numbersOf (faultLines t p) ≡ 11 ∷ 12 ∷ 13 ∷ []
   -- "the earliest place is reported, the lower number first at one place"
-  pub earliest : (p : ℕ) → (numberOf a ≡ 0 → ⊥) → valuesOf a ≡ p ∷ [] → (q : ℕ) → q < p → NoneApplies (faultLines t q)
-  pub first : (p : ℕ) → (numberOf a ≡ 0 → ⊥) → valuesOf a ≡ p ∷ [] → NumberOfFirst (numberOf a) (faultLines t p)
+  pub refuses :
+      (numberOf a ≡ 0 → ⊥)
+      → (p : ℕ) × (valuesOf a ≡ p ∷ []) × ((q : ℕ) → q < p → NoneApplies (faultLines t q)) × NumberOfFirst (numberOf a) (faultLines t p)
+  -- "the counts of rows and columns"
+  pub counts :
+      numberOf a ≡ 0 → (ls : List (List (List ℕ))) (l : List (List ℕ)) → Text t ls l
+      → valuesOf a ≡ length (tableOf ls l) ∷ columnsOf (tableOf ls l) ∷ []
   -- all else is accepted
   pub accepts : ((p : ℕ) → NoneApplies (faultLines t p)) → numberOf a ≡ 0
   pub accepts-only : numberOf a ≡ 0 → (p : ℕ) → NoneApplies (faultLines t p)
@@ -32,4 +40,5 @@ pub record Reader : Type 0 where
   -- every text has an answer
   pub answers : (t : List ℕ) → (a : Answer) × Reads t a
   -- `content` answers 11 for no part that `field` hands over
-  pub parts-accepted : (t : List ℕ) (row column : ℕ) (f : List ℕ) → FieldAt t row column f → (len : ℕ) → content.numberOf (content.answerOf f len) ≡ 11 → ⊥
+  pub parts-accepted :
+      (t : List ℕ) (row column : ℕ) (f : List ℕ) → FieldAt t row column f → (len : ℕ) → content.numberOf (content.answerOf f len) ≡ 11 → ⊥

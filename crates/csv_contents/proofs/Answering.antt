@@ -1,12 +1,11 @@
 -- What a part's measures say of the answer of `content`, and of the target.
 use Prim.Native.Nat.{ℕ, _<_, _≤_}
-use mathlib.Core.Path.{_≡_, refl, sym, ap, _∙_}
-use mathlib.Core.Bool.{Bool, true, false}
+use mathlib.Core.Path.{_≡_, sym, _∙_}
+use mathlib.Core.Bool.{true, false}
 use mathlib.Core.List.{List, _++_}
 use lib.ListN.{length, drop}
 use borrow.Author.Tests.{lt-ltb, le-ltb}
 use Rattle.csv_contents.specs.declared.Measured.{Measured}
-use Rattle.csv_contents.specs.declared.Written.{Written}
 use Rattle.csv_contents.specs.declared.Written.the-variants.{Bytes, Refused}
 use Rattle.csv_contents.specs.Contents.{contentOf, isField, answerOf, targetOf}
 use Rattle.csv_contents.specs.Measures.{Measures}

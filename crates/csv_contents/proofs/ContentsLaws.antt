@@ -1,12 +1,11 @@
 -- The laws of contents.
 use Prim.Native.Nat.{ℕ, _<_, _≤_}
 use mathlib.Core.Path.{_≡_, refl, sym, ap, _∙_, subst, subst⁻¹}
-use mathlib.Core.Logic.{_⊎_, inl, inr}
 use mathlib.Core.Bool.{Bool, true, false, true≢false, cond, not}
 use mathlib.Core.List.{List, [], _∷_, _++_}
 use native.Mathlib.Nat.{not-le-of-lt}
 use native.Mathlib.Omega.{arith}
-use lib.Dec.{T, eqb, ltb}
+use lib.Dec.{eqb, ltb}
 use lib.ListN.{length, drop, length-append}
 use borrow.Author.Tests.{eqb-true, ne-eqb, le-ltb, ltb-true, ltb-false, not-true, not-false}
 use Rattle.refusals.specs.Numbers.{accepted}
@@ -16,7 +15,6 @@ use Rattle.refusals.proofs.Lines.{Decides, DecideAll, refuses-in-order}
 use Rattle.csv_grammar.specs.Grammar as G
 use Rattle.csv_fields.specs.Ends.{isTextData, isInside, plainEnd, quotedEnd, fieldEnd}
 use Rattle.csv_fields.proofs.Bytes.{textdata, textdata-bounds}
-use Rattle.csv_contents.specs.declared.Written.{Written}
 use Rattle.csv_contents.specs.declared.Written.the-variants.{Bytes, Refused}
 use Rattle.csv_contents.specs.Contents.{Unescaped, Content, unquoted, contentOf, isField, contentTests, answerOf, targetOf, numberOf, valuesOf, contentLines}
 use Rattle.csv_contents.specs.ContentsLaws.{ContentsLaws}

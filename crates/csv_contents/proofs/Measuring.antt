@@ -1,6 +1,6 @@
 -- Which parts are fields, and the loop of `measure_quoted`, turn by turn.
 use Prim.Native.Nat.{ℕ, suc, _+_, _-_, _<_, _≤_}
-use mathlib.Core.Path.{_≡_, refl, sym, ap, _∙_, subst}
+use mathlib.Core.Path.{_≡_, refl, sym, ap, _∙_, subst⁻¹}
 use mathlib.Core.Bool.{Bool, true, false, true≢false, cond}
 use mathlib.Core.List.{List, [], _∷_, _++_, append-nil}
 use native.Mathlib.Nat.{zero-add}
@@ -11,7 +11,7 @@ use lib.Seq.{take-length}
 use borrow.Author.Tests.{eq-eqb, ne-eqb, eqb-true}
 use Rattle.csv_grammar.specs.Grammar as G
 use Rattle.csv_fields.specs.declared.FieldEnd.{FieldEnd}
-use Rattle.csv_fields.specs.Ends.{plainEnd, quotedEnd, fieldEnd}
+use Rattle.csv_fields.specs.Ends.{quotedEnd, fieldEnd}
 use Rattle.csv_fields.specs.FieldsLaws.{nothing}
 use Rattle.csv_fields.proofs.Bytes.{textdata, textdata-bounds, not-so}
 use Rattle.csv_fields.proofs.Runs.{quoted-over, inside-here, quote-closes, quote-again, closed-here, quote-opens, no-quote-field}
@@ -68,18 +68,18 @@ module _ (t : List ℕ) (h : 0 < length t) (q : getD t 0 0 ≡ 34) where
   unfolding isField
   field-by e s = ap (wholeAt (length t)) (quote-opens t 0 h q ∙ s)
 
-  no-field : isField t ≡ false → Measures t (record { whole = false; len = 0 })
-  no-field e = record { field = sym e; counts = λ w. absurd (true≢false (sym w)) }
+  no-field : {m : Measured} → m ≡ record { whole = false; len = 0 } → isField t ≡ false → Measures t m
+  no-field em e = subst⁻¹ (Measures t) em (record { field = sym e; counts = λ w. absurd (true≢false (sym w)) })
 
-  pub no-closing-quote : (getD t (length t - 1) 0 ≡ 34 → ⊥) → Measures t (record { whole = false; len = 0 })
-  no-closing-quote n = no-field (not-so (isField t) (λ e. n (closing-quote (is-field t e) h q)))
+  pub no-closing-quote : {m : Measured} → m ≡ record { whole = false; len = 0 } → (getD t (length t - 1) 0 ≡ 34 → ⊥) → Measures t m
+  no-closing-quote em n = no-field em (not-so (isField t) (λ e. n (closing-quote (is-field t e) h q)))
 
-  pub never-closed : (i : ℕ) → quotedEnd false 1 (drop 1 t) ≡ quotedEnd false i (drop i t) → length t ≤ i → Measures t (record { whole = false; len = 0 })
-  never-closed i s l = no-field (field-by (record { at = i; whole = false }) (s ∙ quoted-over t i l false))
+  pub never-closed : (i : ℕ) {m : Measured} → m ≡ record { whole = false; len = 0 } → quotedEnd false 1 (drop 1 t) ≡ quotedEnd false i (drop i t) → length t ≤ i → Measures t m
+  never-closed i em s l = no-field em (field-by (record { at = i; whole = false }) (s ∙ quoted-over t i l false))
 
   module _ (i e : ℕ) (s : quotedEnd false 1 (drop 1 t) ≡ quotedEnd false i (drop i t)) (w : InsideRun t i e) where
-    pub breaks-off : (getD t e 0 ≡ 34 → ⊥) → Measures t (record { whole = false; len = 0 })
-    breaks-off n = no-field (field-by (record { at = e; whole = false }) (s ∙ (w .same ∙ inside-here t e (w .within) (w .ends) n)))
+    pub breaks-off : {m : Measured} → m ≡ record { whole = false; len = 0 } → (getD t e 0 ≡ 34 → ⊥) → Measures t m
+    breaks-off em n = no-field em (field-by (record { at = e; whole = false }) (s ∙ (w .same ∙ inside-here t e (w .within) (w .ends) n)))
 
     module _ (b : getD t e 0 ≡ 34) where
       closed : quotedEnd false 1 (drop 1 t) ≡ quotedEnd true (e + 1) (drop (e + 1) t)
@@ -93,8 +93,8 @@ module _ (t : List ℕ) (h : 0 < length t) (q : getD t 0 0 ≡ 34) where
           record { field = sym (f ∙ eq-eqb (e + 1) (length t) n); counts = λ y. omega (arith, c, w .counts, z, ap length its-content) }
 
       module _ (l : e + 1 < length t) where
-        pub text-after : (getD t (e + 1) 0 ≡ 34 → ⊥) → Measures t (record { whole = false; len = 0 })
-        text-after n = no-field (field-by (record { at = e + 1; whole = true }) (closed ∙ closed-here t (e + 1) l n) ∙ ne-eqb (e + 1) (length t) (λ y. omega arith))
+        pub text-after : {m : Measured} → m ≡ record { whole = false; len = 0 } → (getD t (e + 1) 0 ≡ 34 → ⊥) → Measures t m
+        text-after em n = no-field em (field-by (record { at = e + 1; whole = true }) (closed ∙ closed-here t (e + 1) l n) ∙ ne-eqb (e + 1) (length t) (λ y. omega arith))
 
         pub goes-on : getD t (e + 1) 0 ≡ 34 → (quotedEnd false 1 (drop 1 t) ≡ quotedEnd false (e + 1 + 1) (drop (e + 1 + 1) t))
         goes-on y = closed ∙ quote-again t (e + 1) l y

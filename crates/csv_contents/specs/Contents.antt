@@ -1,7 +1,7 @@
 -- Document 02, item 1: "its content (quotes removed, doubled quotes made single) goes to a target by a separate call, which answers with the byte count
 -- written or gives, both at place 0, 11 for a part that is no field, then 5 for a target shorter than the content".
 use Prim.Native.Nat.{ℕ, _<_}
-use mathlib.Core.Bool.{Bool, true, false, cond, not}
+use mathlib.Core.Bool.{Bool, false, cond, not}
 use mathlib.Core.List.{List, [], _∷_, _++_}
 use lib.Dec.{eqb}
 use lib.ListN.{length, drop}

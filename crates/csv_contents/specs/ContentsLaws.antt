@@ -20,9 +20,12 @@ pub record ContentsLaws : Type 0 where
   pub refused-place : (part : List ℕ) (len : ℕ) → (numberOf (answerOf part len) ≡ 0 → ⊥) → valuesOf (answerOf part len) ≡ 0 ∷ []
   pub writes-nothing : (part target : List ℕ) → (numberOf (answerOf part (length target)) ≡ 0 → ⊥) → targetOf part target ≡ target
   -- the content that is written is the field's, and every content that there is room for is written
-  pub writes : (part target c : List ℕ) → Content part c → length c ≤ length target → (answerOf part (length target) ≡ Bytes (length c)) × (targetOf part target ≡ c ++ drop (length c) target)
-  pub writes-only : (part target : List ℕ) → numberOf (answerOf part (length target)) ≡ 0 →
-      (c : List ℕ) × Content part c × (valuesOf (answerOf part (length target)) ≡ length c ∷ []) × (targetOf part target ≡ c ++ drop (length c) target)
+  pub writes :
+      (part target c : List ℕ) → Content part c → length c ≤ length target
+      → (answerOf part (length target) ≡ Bytes (length c)) × (targetOf part target ≡ c ++ drop (length c) target)
+  pub writes-only :
+      (part target : List ℕ) → numberOf (answerOf part (length target)) ≡ 0
+      → (c : List ℕ) × Content part c × (valuesOf (answerOf part (length target)) ≡ length c ∷ []) × (targetOf part target ≡ c ++ drop (length c) target)
   -- a field is never refused with 11
   pub field-accepted : (f : List ℕ) (len : ℕ) → Field f → numberOf (answerOf f len) ≡ 11 → ⊥
   -- in numerals: a field of two letters b with a doubled quote between, and targets of 2 and 4 bytes; and a part that has a quote after a letter

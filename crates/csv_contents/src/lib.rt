@@ -1,5 +1,6 @@
 // The content of a field of RFC 4180 text: its quotes removed, and doubled quotes made single.
 ghost use mathlib.Core.Path.{_≡_};
+ghost use mathlib.Core.Bool.{false};
 ghost use mathlib.Core.List.{_++_};
 ghost use Prim.Native.Nat.{_+_, _-_, _<_, _≤_};
 ghost use lib.ListN.{length, take, drop, getD};
@@ -37,17 +38,23 @@ fn inside_run(part: &[u8], from: usize) -> usize
     }
 }
 
-// The same for a part that begins with a quote.
+fn no_field() -> Measured
+    ensures { λ r. ⌜ r ≡ record { whole = false; len = 0 } ⌝ }
+{
+    Measured {
+        whole: false,
+        len: 0,
+    }
+}
+
+// Whether a part that begins with a quote is a field, and the length of its content.
 fn measure_quoted(part: &[u8]) -> Measured
     requires { ⌜ (0 < length (now part)) × (getD (now part) 0 0 ≡ 34) ⌝ }
     ensures { λ r. ⌜ Measures (now (part .entry)) r ⌝ }
 {
     let n = part.len();
     if part[n - 1] != 34 {
-        return Measured {
-            whole: false,
-            len: 0,
-        };
+        return no_field();
     }
     let mut i: usize = 1;
     let mut k: usize = 0;
@@ -55,10 +62,7 @@ fn measure_quoted(part: &[u8]) -> Measured
         let e = inside_run(part, i);
         k += e - i;
         if part[e] != 34 {
-            return Measured {
-                whole: false,
-                len: 0,
-            };
+            return no_field();
         }
         let j = e + 1;
         if n <= j {
@@ -68,18 +72,12 @@ fn measure_quoted(part: &[u8]) -> Measured
             };
         }
         if part[j] != 34 {
-            return Measured {
-                whole: false,
-                len: 0,
-            };
+            return no_field();
         }
         k += 1;
         i = j + 1;
     }
-    Measured {
-        whole: false,
-        len: 0,
-    }
+    no_field()
 }
 
 // Whether a part is a field, and the length of its content.

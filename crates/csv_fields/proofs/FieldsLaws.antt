@@ -1,20 +1,20 @@
 -- The laws of field ends.
 use Prim.Native.Nat.{ℕ, suc, _+_, _≤_}
-use mathlib.Core.Path.{_≡_, refl, sym, ap, _∙_, subst, subst⁻¹}
+use mathlib.Core.Path.{_≡_, refl, sym, ap, _∙_, subst⁻¹}
 use mathlib.Core.Logic.{_⊎_, inl, inr}
 use mathlib.Core.Bool.{Bool, true, false, true≢false, cond}
 use mathlib.Core.List.{List, [], _∷_, _++_}
 use native.Mathlib.Omega.{arith}
 use lib.Dec.{eqb}
 use lib.ListN.{length, drop, length-append, length-drop}
-use borrow.Author.Tests.{eq-eqb, ne-eqb, eqb-true}
+use borrow.Author.Tests.{ne-eqb, eqb-true}
 use Rattle.csv_grammar.specs.Grammar.{TextData}
 use Rattle.csv_grammar.specs.Grammar as G
 use Rattle.csv_grammar.proofs.Letters.{split}
 use Rattle.csv_fields.specs.declared.FieldEnd.{FieldEnd}
 use Rattle.csv_fields.specs.Ends.{isTextData, isInside, plainEnd, quotedEnd, fieldEnd}
 use Rattle.csv_fields.specs.FieldsLaws.{Follows, nothing, comma, cr, FieldsLaws}
-use Rattle.csv_fields.proofs.Bytes.{textdata, textdata-only, textdata-bounds, textdata-no, inside-textdata, inside-other, inside-only, inside-no}
+use Rattle.csv_fields.proofs.Bytes.{textdata, textdata-only, textdata-bounds, textdata-no, inside-textdata, inside-other, inside-only}
 
 abbrev ended : ℕ → Bool → FieldEnd
 ended p w = record { at = p; whole = w }

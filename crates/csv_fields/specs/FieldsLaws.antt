@@ -5,7 +5,6 @@ use mathlib.Core.Bool.{true}
 use mathlib.Core.List.{List, [], _∷_, _++_}
 use lib.ListN.{length, drop}
 use Rattle.csv_grammar.specs.Grammar.{TextData, Field}
-use Rattle.csv_fields.specs.declared.FieldEnd.{FieldEnd}
 use Rattle.csv_fields.specs.Ends.{isTextData, fieldEnd}
 
 -- what may stand after a field

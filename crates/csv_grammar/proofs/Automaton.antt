@@ -1,6 +1,6 @@
 -- A finite automaton over the bytes of a text, with counts of rows and fields: what it does at each byte, and what it answers.
 use Prim.Native.Nat.{ℕ, suc, _+_}
-use mathlib.Core.Bool.{Bool, true, false, cond}
+use mathlib.Core.Bool.{Bool, false, cond}
 use mathlib.Core.List.{List, [], _∷_}
 use lib.Dec.{eqb, ltb}
 use Rattle.csv_grammar.specs.declared.Answer.{Answer}

@@ -1,16 +1,15 @@
 -- The counts are those of the division.
 use Prim.Native.Nat.{ℕ, suc, _+_}
-use mathlib.Core.Path.{_≡_, refl, sym, ap, _∙_, subst}
+use mathlib.Core.Path.{_≡_, refl, sym, ap, subst}
 use mathlib.Core.Bool.{Bool, true, false, cond}
 use mathlib.Core.List.{List, [], _∷_, _++_}
 use native.Mathlib.Numerals.{add-one}
-use native.Mathlib.Omega.{arith}
 use lib.Dec.{eqb, eqb·suc-zero}
 use lib.ListN.{length, length-append}
 use Rattle.csv_grammar.specs.Table.{isBlank, skips, addLine, addLines, rowsOf, tableOf, columnsOf}
-use Rattle.csv_grammar.proofs.Automaton.{Counter, Kind, Plain, Comma, Quote, Cr, Lf, Control, Mode, Fresh, Bare, Quoted, Closed, Return, Dead, Act, Letter, Inside, Close, Separate, End, Next, Refuse, kindOf, actOf, lastAct, blankLine, counted, skipLine, moved}
+use Rattle.csv_grammar.proofs.Automaton.{Counter, Kind, Plain, Comma, Quote, Cr, Lf, Control, Mode, Fresh, Bare, Quoted, Closed, Return, Dead, Act, Letter, Inside, Close, Separate, End, Next, Refuse, kindOf, actOf, blankLine, counted, skipLine, moved}
 use Rattle.csv_grammar.proofs.Letters.{told, Told}
-use Rattle.csv_grammar.proofs.Division.{Division, at, stepBy, step, run, begin, Ends}
+use Rattle.csv_grammar.proofs.Division.{Division, at, stepBy, step, Ends}
 use Rattle.csv_grammar.proofs.Sound.{Part, Okay, no-ends-dead}
 
 abbrev pub counterOf : Division → Counter

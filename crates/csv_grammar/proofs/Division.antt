@@ -3,8 +3,8 @@ use Prim.Native.Nat.{ℕ}
 use mathlib.Core.Path.{_≡_, refl, sym, ap, _∙_, subst}
 use mathlib.Core.List.{List, [], _∷_, _++_, append-assoc, append-nil}
 use Rattle.csv_grammar.specs.Grammar as G
-use Rattle.csv_grammar.proofs.Automaton.{Kind, Plain, Comma, Quote, Cr, Lf, Control, Mode, Fresh, Bare, Quoted, Closed, Return, Dead, Act, Letter, Inside, Close, Separate, End, Next, Refuse, kindOf, actOf}
-use Rattle.csv_grammar.proofs.Letters.{kind-plain, told, Told}
+use Rattle.csv_grammar.proofs.Automaton.{Kind, Mode, Fresh, Bare, Quoted, Closed, Return, Dead, Act, Letter, Inside, Close, Separate, End, Next, Refuse, kindOf, actOf}
+use Rattle.csv_grammar.proofs.Letters.{kind-plain}
 
 pub record Division : Type 0 where
   pub mode : Mode

@@ -57,7 +57,7 @@ refuse-counts n p x {r} {c} e = go (eqb n 0) refl e
     go true y g = (eqb-true n 0 y, g)
     go false y g = let z : _≡_ {A = ℕ} 0 1 = cc in absurd (omega arith)
 
-last-end : {m : Mode} → Ends m → lastAct m ≡ End
+pub last-end : {m : Mode} → Ends m → lastAct m ≡ End
 last-end Ends.fresh = refl
 last-end Ends.bare = refl
 last-end Ends.closed = refl

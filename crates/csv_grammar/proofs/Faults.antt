@@ -1,10 +1,10 @@
 -- Faults of a text that is written as the bytes before the place and those from it on, and that they are those at a place.
-use Prim.Native.Nat.{ℕ, suc, _+_, _<_, _≤_}
+use Prim.Native.Nat.{ℕ, suc, _+_, _<_}
 use mathlib.Core.Path.{_≡_, refl, sym, ap, _∙_, subst, subst⁻¹, subst₂}
 use mathlib.Core.Logic.{_⊎_, inl, inr}
-use mathlib.Core.List.{List, [], _∷_, _++_, append-assoc, append-nil}
+use mathlib.Core.List.{List, [], _∷_, _++_}
 use native.Mathlib.Omega.{arith}
-use lib.ListN.{length, take, drop, getD, length-append, take-append-drop}
+use lib.ListN.{length, take, drop, getD, length-append}
 use lib.Seq.{take-all, take-suc, split-at, take-append-seam, length-take-le}
 use Rattle.csv_grammar.specs.declared.Answer.{Answer}
 use Rattle.csv_grammar.specs.declared.Answer.the-variants.{Counts, Refused}

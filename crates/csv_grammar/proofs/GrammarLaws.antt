@@ -2,10 +2,10 @@
 use Prim.Native.Nat.{ℕ, zero, suc, _<_}
 use mathlib.Core.Path.{_≡_, refl, sym, ap, _∙_, subst, subst⁻¹}
 use mathlib.Core.Logic.{_⊎_, inl, inr, ⊎-elim}
-use mathlib.Core.Bool.{Bool, true, false, cond}
+use mathlib.Core.Bool.{true, false, cond}
 use mathlib.Core.List.{List, [], _∷_, _++_}
 use native.Mathlib.Omega.{arith}
-use lib.ListN.{length, take, drop, getD, take-append-drop}
+use lib.ListN.{length, drop, getD, take-append-drop}
 use Rattle.refusals.specs.Numbers.{accepted}
 use Rattle.refusals.specs.Lines.{NumberOfFirst, NoneApplies}
 use Rattle.csv_grammar.specs.declared.Answer.{Answer}
@@ -14,14 +14,15 @@ use Rattle.csv_grammar.specs.Grammar as G
 use Rattle.csv_grammar.specs.Table.{isBlank, skips, addLine, addLines, tableOf, columnsOf, entry, Even}
 use Rattle.csv_grammar.specs.Faults.{NotCsvAt, RaggedAt, TooManyAt, faultLines, numberOf, Reads}
 use Rattle.csv_grammar.specs.GrammarLaws.{GrammarLaws}
-use Rattle.csv_grammar.proofs.Automaton.{Mode, Fresh, Bare, Quoted, Closed, Return, Dead, readOf}
+use Rattle.csv_grammar.proofs.Automaton.{Mode, Fresh, Bare, Quoted, Closed, Return, Dead, kindOf, actOf, readOf}
 use Rattle.csv_grammar.proofs.Letters.{split}
-use Rattle.csv_grammar.proofs.Division.{run, begin, lastLine, Ends, unique}
+use Rattle.csv_grammar.proofs.Division.{Division, stepBy, step, run, begin, lastLine, Ends, run-append, complete, unique}
 use Rattle.csv_grammar.proofs.Sound.{okay, sound, barred, quote-ends, lf-ends}
 use Rattle.csv_grammar.proofs.Faults.{Fault, Right, Before, Faulty, fault-11, fault-12, fault-13, faulty}
 use Rattle.csv_grammar.proofs.Verdict.{right, first}
 use Rattle.csv_grammar.proofs.Even.{even}
-use Rattle.csv_grammar.proofs.Places.{entry-stands}
+use Rattle.csv_grammar.proofs.EvenAccepted.{even-accepted}
+use Rattle.csv_grammar.proofs.Places.{table-stands, entry-stands}
 
 -- ---- what the automaton answers is what a reading answers
 
@@ -121,6 +122,20 @@ breaks-off t g = go (run begin t .mode) refl
     go Return e = inr (inr (lf-ends (okay t) e))
     go Dead e = absurd (barred t e g)
 
+-- a whole text becomes no other by a quote or an LF
+open-byte : (d : Division) {m : Mode} → Ends m → (Ends (stepBy d 34 (actOf m (kindOf 34)) .mode) → ⊥) × (Ends (stepBy d 10 (actOf m (kindOf 10)) .mode) → ⊥)
+unfolding kindOf
+open-byte d Ends.fresh = (λ e. elim e [ ], λ e. elim e [ ])
+open-byte d Ends.bare = (λ e. elim e [ ], λ e. elim e [ ])
+open-byte d Ends.closed = (λ e. elim e [ ], λ e. elim e [ ])
+
+with-byte : (t : List ℕ) (b : ℕ) → G.IsText (t ++ (b ∷ [])) → Ends (step (run begin t) b .mode)
+with-byte t b g = subst (λ (d : Division). Ends (d .mode)) (run-append begin t (b ∷ [])) (complete (g .2) .0)
+
+breaks-off-only : (t : List ℕ) → G.IsText (t ++ (34 ∷ [])) ⊎ G.IsText (t ++ (10 ∷ [])) → G.IsText t → ⊥
+breaks-off-only t (inl g) w = open-byte (run begin t) (complete (w .2) .0) .0 (with-byte t 34 g)
+breaks-off-only t (inr g) w = open-byte (run begin t) (complete (w .2) .0) .1 (with-byte t 10 g)
+
 no-nil : {A : Type 0} {b : ℕ} {s : List ℕ} → b ∷ s ≡ [] → A
 no-nil e = let z : _≡_ {A = ℕ} 0 1 = cc in absurd (omega arith)
 
@@ -181,11 +196,14 @@ grammar-laws =
       one-division = λ t ls ms l k p q. unique p q;
       blank-line = λ s fs q. blank-line q;
       breaks-off = breaks-off;
+      breaks-off-only = breaks-off-only;
       fault-numbers = λ t p. refl;
       one-answer = one-answer;
       accepts = accepts;
       accepts-only = accepts-only;
       even-rows = even-rows;
+      even-accepted = λ t a h ls l p w. ap numberOf (is-read t a h) ∙ even-accepted p w;
       entry-field = λ t ls l p. entry-field p;
+      table-stands = λ t ls l p. table-stands p;
       entry-stands = λ t ls l p. entry-stands p;
     }

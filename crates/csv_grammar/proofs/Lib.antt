@@ -7,6 +7,7 @@ pub mod Counted
 pub mod Faults
 pub mod Verdict
 pub mod Even
+pub mod EvenAccepted
 pub mod Places
 pub mod GrammarLaws
 pub mod WorkedTexts

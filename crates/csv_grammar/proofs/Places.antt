@@ -1,15 +1,15 @@
 -- The fields of a text stand at their places.
 use Prim.Native.Nat.{ℕ, zero, suc, _+_, _-_, _≤_}
-use mathlib.Core.Path.{_≡_, refl, sym, ap, _∙_, subst}
+use mathlib.Core.Path.{_≡_, refl, sym, ap, _∙_, subst, subst⁻¹}
 use mathlib.Core.Bool.{Bool, true, false, cond}
 use mathlib.Core.List.{List, [], _∷_, _++_, append-assoc, append-nil}
 use native.Mathlib.Omega.{arith}
 use lib.ListN.{length, take, drop, getD, length-append, length-drop, take-append-drop}
-use lib.Seq.{length-take-le, drop-drop, drop-cons, drop-append-seam, take-append-seam}
+use lib.Seq.{length-take-le, drop-drop, drop-append-seam, take-append-seam}
 use Rattle.csv_grammar.specs.declared.Span.{Span}
 use Rattle.csv_grammar.specs.Grammar as G
 use Rattle.csv_grammar.specs.Table.{isBlank, skips, addLine, addLines, tableOf, entry}
-use Rattle.csv_grammar.specs.Places.{lineSpans, lineEnd, spansFrom, spansOf, noSpan, spanAt, bytesAt, StandsAt}
+use Rattle.csv_grammar.specs.Places.{lineSpans, lineEnd, spansFrom, spansOf, noSpan, spanAt, bytesAt, StandsAt, RowStands, RowsStand}
 
 -- what is left of a text after a part of it, and its length
 module _ (t : List ℕ) (f a : List ℕ) (p : ℕ) (e : drop p t ≡ f ++ a) where
@@ -40,18 +40,6 @@ line-end (G.Line.more {f = f} h (G.Line.more {f = g} {s = s} {fs = fs} k q)) p =
     line-end (G.Line.more k q) (p + length f + 1) ∙ omega (arith, length-append f (44 ∷ (g ++ (44 ∷ s))))
 
 -- ---- rows of places, and the fields that stand there
-
-abbrev RowStands : List ℕ → List Span → List (List ℕ) → Type 0
-RowStands t [] [] = Unit
-RowStands t [] (f ∷ fs) = ⊥
-RowStands t (s ∷ ss) [] = ⊥
-RowStands t (s ∷ ss) (f ∷ fs) = StandsAt t s f × RowStands t ss fs
-
-abbrev RowsStand : List ℕ → List (List Span) → List (List (List ℕ)) → Type 0
-RowsStand t [] [] = Unit
-RowsStand t [] (r ∷ rows) = ⊥
-RowsStand t (s ∷ ss) [] = ⊥
-RowsStand t (s ∷ ss) (r ∷ rows) = RowStands t s r × RowsStand t ss rows
 
 nothing-stands : (t : List ℕ) → StandsAt t noSpan []
 nothing-stands t = record { before = []; after = t; text = refl; starts = refl; ends = refl }
@@ -99,6 +87,11 @@ text-stands t (G.Text.next {s = s} {t = u} {fs = fs} {l = l} {ls = ls} k x) rows
         Added t rows (cond y (spansFrom now (lineEnd p fs + 2) ls l) (lineSpans p fs ∷ spansFrom now (lineEnd p fs + 2) ls l)) table
     go true w = w
     go false w = (fs ∷ w .0, w .1 ∙ append-assoc rows (fs ∷ []) (w .0), (line-stands t k (13 ∷ (10 ∷ u)) p e h, w .2))
+
+pub table-stands : {t : List ℕ} {ls : List (List (List ℕ))} {l : List (List ℕ)} → G.Text t ls l → RowsStand t (spansOf ls l) (tableOf ls l)
+table-stands {t} {ls} {l} p =
+    let w = text-stands t p [] 0 refl (omega arith) in
+    subst⁻¹ (RowsStand t (spansOf ls l)) (w .1) (w .2)
 
 pub entry-stands : {t : List ℕ} {ls : List (List (List ℕ))} {l : List (List ℕ)} → G.Text t ls l → (row column : ℕ) → StandsAt t (spanAt (spansOf ls l) row column) (entry (tableOf ls l) row column)
 entry-stands {t} {ls} {l} p row column =

@@ -1,6 +1,6 @@
 -- What the automaton has divided is of the grammar, and can be continued.
 use Prim.Native.Nat.{ℕ}
-use mathlib.Core.Path.{_≡_, refl, sym, ap, _∙_, subst, subst⁻¹, subst₂}
+use mathlib.Core.Path.{_≡_, refl, ap, _∙_, subst, subst⁻¹, subst₂}
 use mathlib.Core.List.{List, [], _∷_, _++_, append-assoc, append-nil}
 use Rattle.csv_grammar.specs.Grammar as G
 use Rattle.csv_grammar.proofs.Automaton.{Kind, Plain, Comma, Quote, Cr, Lf, Control, Mode, Fresh, Bare, Quoted, Closed, Return, Dead, kindOf, actOf}

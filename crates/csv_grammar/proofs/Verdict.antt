@@ -1,27 +1,26 @@
 -- The automaton's answer: a refusal is a fault, no fault stands before it, and an accepted text has none.
-use Prim.Native.Nat.{ℕ, suc, _+_, _<_}
+use Prim.Native.Nat.{ℕ, suc, _+_}
 use mathlib.Core.Path.{_≡_, refl, sym, ap, _∙_, subst, subst⁻¹, subst₂, subst₃}
 use mathlib.Core.Logic.{_⊎_, inl, inr, ⊎-elim}
-use mathlib.Core.Bool.{Bool, true, false, cond}
+use mathlib.Core.Bool.{false}
 use mathlib.Core.List.{List, [], _∷_, _++_, append-assoc, append-nil}
 use native.Mathlib.Numerals.{add-one}
 use native.Mathlib.Nat.{zero-add}
 use native.Mathlib.Omega.{arith}
-use lib.Dec.{eqb, eqb·suc-zero}
-use lib.ListN.{length, length-append}
+use lib.Dec.{eqb}
+use lib.ListN.{length}
 use borrow.Author.Tests.{eqb-true, eqb-false, ne-eqb, eq-eqb}
-use Rattle.csv_grammar.specs.declared.Answer.{Answer}
-use Rattle.csv_grammar.specs.declared.Answer.the-variants.{Counts, Refused}
+use Rattle.csv_grammar.specs.declared.Answer.the-variants.{Counts}
 use Rattle.csv_grammar.specs.Grammar as G
-use Rattle.csv_grammar.specs.Table.{isBlank, rowsOf, tableOf, columnsOf}
+use Rattle.csv_grammar.specs.Table.{rowsOf, columnsOf}
 use Rattle.csv_grammar.specs.Faults.{Ragged}
 use Rattle.csv_grammar.proofs.Faults.{Fault, barred, unfinished, uneven, uneven-end, wide, Right, Before}
-use Rattle.csv_grammar.proofs.Automaton.{Counter, Mode, Fresh, Bare, Quoted, Closed, Return, Dead, Act, Letter, Inside, Close, Separate, End, Next, Refuse, kindOf, actOf, lastAct, blankLine, counted, moved, faultOf, refuseOr, endOf, readFrom, readOf, start}
-use Rattle.csv_grammar.proofs.Letters.{told, Told, split}
+use Rattle.csv_grammar.proofs.Automaton.{Counter, Mode, Fresh, Bare, Quoted, Closed, Return, Dead, Act, Letter, Inside, Close, Separate, End, Next, Refuse, kindOf, actOf, lastAct, blankLine, counted, moved, faultOf, endOf, readFrom, readOf, start}
+use Rattle.csv_grammar.proofs.Letters.{told, split}
 use Rattle.csv_grammar.proofs.Division.{Division, at, stepBy, step, run, begin, lastLine, Ends, run-append, complete}
 use Rattle.csv_grammar.proofs.Sound as S
-use Rattle.csv_grammar.proofs.Sound.{Part, Okay, no-ends-dead, okay, okay-step, sound, begins}
-use Rattle.csv_grammar.proofs.Counted.{counterOf, Tells, tells, rows-last, blank-same, length-last, counts, stop-counts, okay-blank}
+use Rattle.csv_grammar.proofs.Sound.{Okay, okay, okay-step, sound, begins}
+use Rattle.csv_grammar.proofs.Counted.{counterOf, Tells, tells, length-last, counts, stop-counts, okay-blank}
 
 -- what stands next: a byte or the end
 abbrev actAt : Mode → List ℕ → Act

@@ -1,13 +1,11 @@
 -- Texts and their answers in numerals: by computation of the automaton.
-use Prim.Native.Nat.{ℕ}
 use mathlib.Core.Path.{_≡_, refl, subst}
 use mathlib.Core.List.{List, [], _∷_}
-use Rattle.csv_grammar.specs.declared.Answer.{Answer}
 use Rattle.csv_grammar.specs.Grammar as G
 use Rattle.csv_grammar.specs.Faults.{Reads}
-use Rattle.csv_grammar.specs.WorkedTexts.{Row, acceptedRows, refusedRows, AllRead, WorkedTexts}
+use Rattle.csv_grammar.specs.WorkedTexts.{Row, acceptedRows, refusedRows, AllRead, dividedText, itsLines, itsLast, WorkedTexts}
 use Rattle.csv_grammar.proofs.Automaton.{kindOf, counted, endOf, readFrom, readOf}
-use Rattle.csv_grammar.proofs.Division.{run, begin, lastLine, Ends}
+use Rattle.csv_grammar.proofs.Division.{Ends}
 use Rattle.csv_grammar.proofs.Sound.{okay, sound}
 use Rattle.csv_grammar.proofs.GrammarLaws.{reads}
 
@@ -28,9 +26,9 @@ refused-rows : AllComputed refusedRows
 unfolding readOf readFrom kindOf counted endOf
 refused-rows = (refl, (refl, (refl, (refl, (refl, (refl, (refl, (refl, (refl, (refl, (refl, (refl, (refl, (refl, (refl, (refl, tt))))))))))))))))
 
-division : G.Text (97 ∷ 44 ∷ 34 ∷ 98 ∷ 34 ∷ 34 ∷ 98 ∷ 34 ∷ 13 ∷ 10 ∷ 13 ∷ 10 ∷ 98 ∷ 44 ∷ []) (((97 ∷ []) ∷ (34 ∷ 98 ∷ 34 ∷ 34 ∷ 98 ∷ 34 ∷ []) ∷ []) ∷ ([] ∷ []) ∷ []) ((98 ∷ []) ∷ [] ∷ [])
+division : G.Text dividedText itsLines itsLast
 unfolding kindOf
-division = sound (okay (97 ∷ 44 ∷ 34 ∷ 98 ∷ 34 ∷ 34 ∷ 98 ∷ 34 ∷ 13 ∷ 10 ∷ 13 ∷ 10 ∷ 98 ∷ 44 ∷ [])) Ends.fresh
+division = sound (okay dividedText) Ends.fresh
 
 pub worked-texts : WorkedTexts
-worked-texts = record { accepted-rows = all-read acceptedRows accepted-rows; refused-rows = all-read refusedRows refused-rows; division = division; places = refl }
+worked-texts = record { accepted-rows = all-read acceptedRows accepted-rows; refused-rows = all-read refusedRows refused-rows; division = division; places = refl; equal-places = refl }

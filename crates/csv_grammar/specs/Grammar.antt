@@ -1,5 +1,6 @@
--- The grammar of RFC 4180, section 2, production for production, over the bytes of a text. A field is a list of the text's own bytes, quotes
--- included; a line goes with its fields, a text with its lines.
+-- The grammar of RFC 4180, section 2, production for production, over the bytes of a text, which are numbers below 256. A field is a list of the text's
+-- own bytes, quotes included; a line goes with its fields, a text with its lines. "header = name *(COMMA name)" and "name = field" make a header a line
+-- like any other.
 use Prim.Native.Nat.{ℕ, _≤_}
 use mathlib.Core.Logic.{_⊎_}
 use mathlib.Core.List.{List, [], _∷_, _++_}

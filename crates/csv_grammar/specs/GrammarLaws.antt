@@ -8,8 +8,8 @@ use Rattle.refusals.specs.Lines.{numbersOf}
 use Rattle.csv_grammar.specs.declared.Answer.{Answer}
 use Rattle.csv_grammar.specs.Grammar.{Field, Line, Text, IsText, Begins}
 use Rattle.csv_grammar.specs.Table.{isBlank, tableOf, entry, Even}
-use Rattle.csv_grammar.specs.Places.{spansOf, spanAt, StandsAt}
-use Rattle.csv_grammar.specs.Faults.{NotCsvAt, RaggedAt, TooManyAt, faultLines, numberOf, Reads}
+use Rattle.csv_grammar.specs.Places.{spansOf, spanAt, StandsAt, RowsStand}
+use Rattle.csv_grammar.specs.Faults.{RaggedAt, TooManyAt, faultLines, numberOf, Reads}
 
 pub record GrammarLaws : Type 0 where
   -- "the division into fields is the only one"
@@ -18,6 +18,7 @@ pub record GrammarLaws : Type 0 where
   pub blank-line : (s : List ℕ) (fs : List (List ℕ)) → Line s fs → (isBlank fs ≡ true → s ≡ []) × (s ≡ [] → isBlank fs ≡ true)
   -- what begins a text and is none "ends inside quotes or on a lone CR": a quote, or an LF, makes it one
   pub breaks-off : (t : List ℕ) → Begins t → IsText t ⊎ (IsText (t ++ (34 ∷ [])) ⊎ IsText (t ++ (10 ∷ [])))
+  pub breaks-off-only : (t : List ℕ) → IsText (t ++ (34 ∷ [])) ⊎ IsText (t ++ (10 ∷ [])) → IsText t → ⊥
   -- the numbers of one place, in the paper's numerals and order
   pub fault-numbers : (t : List ℕ) (p : ℕ) → numbersOf (faultLines t p) ≡ 11 ∷ 12 ∷ 13 ∷ []
   -- a text has one answer
@@ -26,8 +27,16 @@ pub record GrammarLaws : Type 0 where
   pub accepts : (t : List ℕ) (a : Answer) → Reads t a → IsText t → ((p : ℕ) → RaggedAt t p → ⊥) → ((p : ℕ) → TooManyAt t p → ⊥) → numberOf a ≡ 0
   pub accepts-only : (t : List ℕ) (a : Answer) → Reads t a → numberOf a ≡ 0 → IsText t × ((p : ℕ) → RaggedAt t p → ⊥) × ((p : ℕ) → TooManyAt t p → ⊥)
   -- every row of an accepted text has as many fields as the first, at most 32
-  pub even-rows : (t : List ℕ) (a : Answer) → Reads t a → numberOf a ≡ 0 → (ls : List (List (List ℕ))) (l : List (List ℕ)) → Text t ls l → Even (tableOf ls l)
+  pub even-rows :
+      (t : List ℕ) (a : Answer) → Reads t a → numberOf a ≡ 0 → (ls : List (List (List ℕ))) (l : List (List ℕ)) → Text t ls l → Even (tableOf ls l)
+  -- and a text of the grammar with such rows is accepted
+  pub even-accepted :
+      (t : List ℕ) (a : Answer) → Reads t a → (ls : List (List (List ℕ))) (l : List (List ℕ)) → Text t ls l → Even (tableOf ls l) → numberOf a ≡ 0
   -- what stands in a table is a field, and stands at its place
-  pub entry-field : (t : List ℕ) (ls : List (List (List ℕ))) (l : List (List ℕ)) → Text t ls l → (row column : ℕ) → Field (entry (tableOf ls l) row column)
-  pub entry-stands : (t : List ℕ) (ls : List (List (List ℕ))) (l : List (List ℕ)) → Text t ls l → (row column : ℕ) →
-      StandsAt t (spanAt (spansOf ls l) row column) (entry (tableOf ls l) row column)
+  pub entry-field :
+      (t : List ℕ) (ls : List (List (List ℕ))) (l : List (List ℕ)) → Text t ls l → (row column : ℕ) → Field (entry (tableOf ls l) row column)
+  -- row by row, field by field: as many places as fields
+  pub table-stands : (t : List ℕ) (ls : List (List (List ℕ))) (l : List (List ℕ)) → Text t ls l → RowsStand t (spansOf ls l) (tableOf ls l)
+  pub entry-stands :
+      (t : List ℕ) (ls : List (List (List ℕ))) (l : List (List ℕ)) → Text t ls l → (row column : ℕ)
+      → StandsAt t (spanAt (spansOf ls l) row column) (entry (tableOf ls l) row column)

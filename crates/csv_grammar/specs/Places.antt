@@ -48,3 +48,16 @@ pub record StandsAt (t : List ℕ) (s : Span) (f : List ℕ) : Type 0 where
   pub text : t ≡ before ++ (f ++ after)
   pub starts : length before ≡ s .start
   pub ends : s .end ≡ s .start + length f
+
+-- row by row, the fields of a table stand at these places, as many as there are
+abbrev pub RowStands : List ℕ → List Span → List (List ℕ) → Type 0
+RowStands t [] [] = Unit
+RowStands t [] (f ∷ fs) = ⊥
+RowStands t (s ∷ ss) [] = ⊥
+RowStands t (s ∷ ss) (f ∷ fs) = StandsAt t s f × RowStands t ss fs
+
+abbrev pub RowsStand : List ℕ → List (List Span) → List (List (List ℕ)) → Type 0
+RowsStand t [] [] = Unit
+RowsStand t [] (r ∷ rows) = ⊥
+RowsStand t (s ∷ ss) [] = ⊥
+RowsStand t (s ∷ ss) (r ∷ rows) = RowStands t s r × RowsStand t ss rows

@@ -46,11 +46,23 @@ AllRead (r ∷ rows) = Reads (r .text) (r .answer) × AllRead rows
 abbrev pub span : (start end : ℕ) → Span
 span start end = record { start = start; end = end }
 
+-- a text of two rows of two fields, with a line of no bytes between; the second field has a doubled quote, and the last one has no bytes
+abbrev pub dividedText : List ℕ
+dividedText = 97 ∷ 44 ∷ 34 ∷ 98 ∷ 34 ∷ 34 ∷ 98 ∷ 34 ∷ 13 ∷ 10 ∷ 13 ∷ 10 ∷ 98 ∷ 44 ∷ []
+
+abbrev pub itsLines : List (List (List ℕ))
+itsLines = ((97 ∷ []) ∷ (34 ∷ 98 ∷ 34 ∷ 34 ∷ 98 ∷ 34 ∷ []) ∷ []) ∷ ([] ∷ []) ∷ []
+
+abbrev pub itsLast : List (List ℕ)
+itsLast = (98 ∷ []) ∷ [] ∷ []
+
+-- lines with equal fields: of no bytes, two letters a, of no bytes, the letter in quotes and a field of no bytes
+abbrev pub equalLines : List (List (List ℕ))
+equalLines = ([] ∷ []) ∷ ((97 ∷ []) ∷ (97 ∷ []) ∷ []) ∷ ([] ∷ []) ∷ ((34 ∷ 97 ∷ 34 ∷ []) ∷ [] ∷ []) ∷ []
+
 pub record WorkedTexts : Type 0 where
   pub accepted-rows : AllRead acceptedRows
   pub refused-rows : AllRead refusedRows
-  -- two rows of two fields, with a line of no bytes between; the second field has a doubled quote, and the last one has no bytes
-  pub division : Text (97 ∷ 44 ∷ 34 ∷ 98 ∷ 34 ∷ 34 ∷ 98 ∷ 34 ∷ 13 ∷ 10 ∷ 13 ∷ 10 ∷ 98 ∷ 44 ∷ []) (((97 ∷ []) ∷ (34 ∷ 98 ∷ 34 ∷ 34 ∷ 98 ∷ 34 ∷ []) ∷ []) ∷ ([] ∷ []) ∷ []) ((98 ∷ []) ∷ [] ∷ [])
-  pub places :
-      spansOf (((97 ∷ []) ∷ (34 ∷ 98 ∷ 34 ∷ 34 ∷ 98 ∷ 34 ∷ []) ∷ []) ∷ ([] ∷ []) ∷ []) ((98 ∷ []) ∷ [] ∷ [])
-      ≡ (span 0 1 ∷ span 2 8 ∷ []) ∷ (span 12 13 ∷ span 14 14 ∷ []) ∷ []
+  pub division : Text dividedText itsLines itsLast
+  pub places : spansOf itsLines itsLast ≡ (span 0 1 ∷ span 2 8 ∷ []) ∷ (span 12 13 ∷ span 14 14 ∷ []) ∷ []
+  pub equal-places : spansOf equalLines ([] ∷ []) ≡ (span 2 3 ∷ span 4 5 ∷ []) ∷ (span 9 12 ∷ span 13 13 ∷ []) ∷ []

@@ -12,17 +12,17 @@ use lib.Seq.{drop-cons}
 use borrow.Author.Tests.{eq-eqb, ne-eqb, eqb-true, eqb-false, ltb-true, ltb-false}
 use Rattle.csv_grammar.specs.declared.Answer.{Answer}
 use Rattle.csv_grammar.specs.declared.Answer.the-variants.{Counts, Refused}
-use Rattle.csv_grammar.proofs.Automaton.{Kind, Plain, Comma, Quote, Cr, Lf, Control, Mode, Fresh, Bare, Quoted, Closed, Return, Dead, Act, Separate, End, Refuse, Counter, kindOf, actOf, blankLine, faultOf, counted, skipLine, moved, refuseOr, endOf, readFrom}
+use Rattle.csv_grammar.proofs.Automaton.{Kind, Plain, Comma, Quote, Cr, Lf, Control, Mode, Fresh, Bare, Quoted, Closed, Return, End, Refuse, Counter, kindOf, actOf, blankLine, faultOf, counted, skipLine, moved, refuseOr, endOf, readFrom}
 use Rattle.csv_grammar.proofs.Division.{Ends}
 use Rattle.csv_grammar.proofs.Letters.{Told, told, split, kind-plain}
 use Rattle.csv_fields.specs.declared.FieldEnd.{FieldEnd}
 use Rattle.csv_fields.specs.Ends.{isTextData, isInside, plainEnd, quotedEnd, fieldEnd}
-use Rattle.csv_fields.proofs.Bytes.{textdata, textdata-only, textdata-bounds, textdata-no, inside-textdata, inside-other, inside-no}
+use Rattle.csv_fields.proofs.Bytes.{textdata, textdata-only, textdata-bounds, inside-textdata, inside-other, inside-no}
 use Rattle.csv_fields.proofs.Runs.{quote-opens, no-quote-field}
 use Rattle.csv_fields.proofs.FieldsLaws.{plain-within, quoted-within}
 use Rattle.csv_reading.specs.declared.Tally.{Tally}
 use Rattle.csv_reading.specs.declared.Progress.{Progress}
-use Rattle.csv_reading.specs.Steps.{goingOn, overAt, answerOf, ragged, withLine, afterComma, lfAt, blankFrom, afterCr, atEnd, atByte, afterField, afterEnd, stepOf}
+use Rattle.csv_reading.specs.Steps.{overAt, answerOf, ragged, withLine, afterComma, lfAt, blankFrom, afterCr, atEnd, atByte, afterField, afterEnd, stepOf}
 
 -- the counts, in a mode
 abbrev pub counter : Mode → Tally → Counter

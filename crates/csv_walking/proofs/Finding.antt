@@ -1,25 +1,22 @@
 -- The loop of `find`, turn by turn, and what `part` and `field` hand over.
-use Prim.Native.Nat.{ℕ, zero, suc, _-_, _≤_}
+use Prim.Native.Nat.{ℕ, zero, suc, _-_}
 use mathlib.Core.Path.{_≡_, refl, sym, ap, _∙_, subst, subst⁻¹}
 use mathlib.Core.Bool.{Bool, true, false}
 use mathlib.Core.List.{List, [], _∷_}
 use native.Mathlib.Omega.{arith}
-use lib.Dec.{eqb, eqb·suc-zero}
-use lib.ListN.{length, getD}
-use Rattle.csv_grammar.specs.declared.Answer.{Answer}
+use lib.Dec.{eqb·suc-zero}
+use lib.ListN.{getD}
 use Rattle.csv_grammar.specs.declared.Answer.the-variants.{Counts, Refused}
 use Rattle.csv_grammar.specs.declared.Span.{Span}
 use Rattle.csv_grammar.specs.Grammar.{Text}
 use Rattle.csv_grammar.specs.Faults.{Reads}
 use Rattle.csv_grammar.specs.Places.{spansOf, noSpan, spanAt}
-use Rattle.csv_grammar.proofs.GrammarLaws.{one-answer}
 use Rattle.csv_walking.specs.declared.Cursor.{Cursor}
-use Rattle.csv_walking.specs.declared.Visit.{Visit}
 use Rattle.csv_walking.specs.declared.Visit.the-variants.{Field, Done}
 use Rattle.csv_walking.specs.declared.Sought.{Sought}
 use Rattle.csv_walking.specs.declared.Sought.the-variants.{Here, Nowhere, Later}
 use Rattle.csv_walking.specs.Walking.{nextOf, first, Walks, done, more, last}
-use Rattle.csv_walking.specs.Parts.{PartBy, Part, soughtOf, Found}
+use Rattle.csv_walking.specs.Parts.{Part, soughtOf, Found}
 use Rattle.csv_walking.proofs.Walking.{walks, visited}
 
 -- what an answer of the search says of the rows still to come
@@ -95,12 +92,9 @@ module _ (t : List ℕ) (row column : ℕ) (w : Cursor) (r k : ℕ) (h : Searchi
 
 -- ---- the part
 
--- what is so of one answer of a text is so of each
-part-by : (t : List ℕ) (row column : ℕ) (s : Span) (a : Answer) → Reads t a → PartBy a t row column s → s .start ≤ s .end → s .end ≤ length t → Part t row column s
-part-by t row column s a h p b e = record { place = λ x r. subst (λ (y : Answer). PartBy y t row column s) (one-answer t a x h r) p; starts = b; ends = e }
-
 pub part-found : (t : List ℕ) (row column rows columns : ℕ) (s : Span) → Reads t (Counts rows columns) → Found t row column s → Part t row column s
-part-found t row column rows columns s h f = part-by t row column s (Counts rows columns) h (f .place) (f .starts) (f .ends)
+part-found t row column rows columns s h f =
+    record { place = (Counts rows columns, h, (h .1, h .2, h .3, f .place (h .1) (h .2) (h .3))); starts = f .starts; ends = f .ends }
 
 pub part-refused : (t : List ℕ) (row column number place : ℕ) → Reads t (Refused number place) → Part t row column noSpan
-part-refused t row column number place h = part-by t row column noSpan (Refused number place) h refl (omega arith) (omega arith)
+part-refused t row column number place h = record { place = (Refused number place, h, refl); starts = omega arith; ends = omega arith }

@@ -1,23 +1,20 @@
 -- The functions of a walk, turn by turn.
 use Prim.Native.Nat.{ℕ, suc, _+_, _-_, _<_, _≤_}
-use mathlib.Core.Path.{_≡_, refl, sym, ap, _∙_, subst}
+use mathlib.Core.Path.{_≡_, refl, sym, ap, _∙_}
 use mathlib.Core.Bool.{Bool, true, false, cond}
 use mathlib.Core.List.{List, [], _∷_}
 use native.Mathlib.Omega.{arith}
 use native.Mathlib.Numerals.{add-one}
-use lib.Dec.{eqb, ltb, leb}
+use lib.Dec.{eqb}
 use lib.ListN.{length, drop, getD, drop-of-length-le}
 use lib.Seq.{drop-cons}
 use borrow.Author.Tests.{eq-eqb, ne-eqb, lt-ltb, le-ltb, lt-leb}
 use Rattle.csv_fields.specs.declared.FieldEnd.{FieldEnd}
 use Rattle.csv_fields.specs.Ends.{fieldEnd}
-use Rattle.csv_grammar.specs.declared.Span.{Span}
 use Rattle.csv_walking.specs.declared.Cursor.{Cursor}
-use Rattle.csv_walking.specs.declared.Visit.{Visit}
 use Rattle.csv_walking.specs.declared.Visit.the-variants.{Field, Done}
-use Rattle.csv_walking.specs.declared.Sought.{Sought}
 use Rattle.csv_walking.specs.declared.Sought.the-variants.{Here, Nowhere, Later}
-use Rattle.csv_walking.specs.Walking.{skipFrom, startOf, overAt, afterField, visitAt, nextOf}
+use Rattle.csv_walking.specs.Walking.{skipFrom, startOf, overAt, afterField, nextOf}
 use Rattle.csv_walking.specs.Parts.{soughtOf}
 
 -- ---- lines of no bytes

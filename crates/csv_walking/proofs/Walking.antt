@@ -11,7 +11,7 @@ use lib.Seq.{drop-cons}
 use borrow.Author.Tests.{ne-eqb, le-ltb, le-leb, lt-leb, ltb-true, ltb-false, leb-false}
 use Rattle.csv_grammar.specs.declared.Span.{Span}
 use Rattle.csv_grammar.specs.Grammar as G
-use Rattle.csv_grammar.specs.Table.{isBlank, skips, addLine}
+use Rattle.csv_grammar.specs.Table.{isBlank, addLine}
 use Rattle.csv_grammar.specs.Places.{lineSpans, lineEnd, spansFrom, spansOf}
 use Rattle.csv_grammar.proofs.Letters.{split}
 use Rattle.csv_grammar.proofs.Places.{rest, fits, past-comma, past-line, line-end}
@@ -24,7 +24,7 @@ use Rattle.csv_fields.proofs.FieldsLaws.{field-ends, ends-within}
 use Rattle.csv_walking.specs.declared.Cursor.{Cursor}
 use Rattle.csv_walking.specs.declared.Visit.{Visit}
 use Rattle.csv_walking.specs.declared.Visit.the-variants.{Field, Done}
-use Rattle.csv_walking.specs.Walking.{skipFrom, startOf, overAt, afterField, visitAt, nextOf, first, Walks, done, more, last, ahead}
+use Rattle.csv_walking.specs.Walking.{skipFrom, overAt, afterField, visitAt, nextOf, first, Walks, done, more, last, ahead}
 use Rattle.csv_walking.proofs.Stepping.{after-comma, after-line, after-end}
 
 -- ---- lines

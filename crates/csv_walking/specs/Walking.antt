@@ -45,7 +45,9 @@ first = record { at = 0; inside = false }
 -- a walk visits exactly these rows, field by field, and then ends; inside a row the first of them is the rest of that row
 pub data Walks (t : List ℕ) : Cursor → List (List Span) → Type 0 where
   done : {w : Cursor} → nextOf t w ≡ Done → Walks t w []
-  more : {w v : Cursor} {s : Span} {ss : List Span} {rows : List (List Span)} → nextOf t w ≡ Field s v → v .inside ≡ true → Walks t v (ss ∷ rows) → Walks t w ((s ∷ ss) ∷ rows)
+  more :
+      {w v : Cursor} {s : Span} {ss : List Span} {rows : List (List Span)} → nextOf t w ≡ Field s v → v .inside ≡ true → Walks t v (ss ∷ rows)
+      → Walks t w ((s ∷ ss) ∷ rows)
   last : {w v : Cursor} {s : Span} {rows : List (List Span)} → nextOf t w ≡ Field s v → v .inside ≡ false → Walks t v rows → Walks t w ((s ∷ []) ∷ rows)
 
 -- what is left to walk: a number that falls with each field, so that every walk ends

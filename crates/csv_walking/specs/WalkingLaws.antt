@@ -1,9 +1,11 @@
 -- The laws of walks and parts. proofs/WalkingLaws.antt has `walking-laws : WalkingLaws`.
 use Prim.Native.Nat.{ℕ, _<_, _≤_}
 use mathlib.Core.Path.{_≡_}
+use mathlib.Core.Logic.{_⊎_}
 use mathlib.Core.List.{List, []}
 use lib.ListN.{length}
 use Rattle.csv_grammar.specs.declared.Answer.{Answer}
+use Rattle.csv_grammar.specs.declared.Answer.the-variants.{Counts}
 use Rattle.csv_grammar.specs.declared.Span.{Span}
 use Rattle.csv_grammar.specs.Grammar.{Field, Text}
 use Rattle.csv_grammar.specs.Table.{tableOf, entry}
@@ -12,7 +14,7 @@ use Rattle.csv_grammar.specs.Places.{spansOf, StandsAt}
 use Rattle.csv_walking.specs.declared.Cursor.{Cursor}
 use Rattle.csv_walking.specs.declared.Visit.the-variants.{Field as Visited}
 use Rattle.csv_walking.specs.Walking.{nextOf, first, Walks, ahead}
-use Rattle.csv_walking.specs.Parts.{Part, FieldAt}
+use Rattle.csv_walking.specs.Parts.{Part, FieldAt, HandsOver}
 
 pub record WalkingLaws : Type 0 where
   -- from the start on, the walk visits exactly the fields of the table, row by row, each at its place
@@ -23,10 +25,18 @@ pub record WalkingLaws : Type 0 where
   -- a row and column have one part
   pub one-part : (t : List ℕ) (row column : ℕ) (s r : Span) → Part t row column s → Part t row column r → s ≡ r
   -- of an accepted text it is the field of the table, at its place; of a refused one it is empty
-  pub part-stands : (t : List ℕ) (a : Answer) → Reads t a → numberOf a ≡ 0 → (ls : List (List (List ℕ))) (l : List (List ℕ)) → Text t ls l → (row column : ℕ) (s : Span) → Part t row column s →
-      StandsAt t s (entry (tableOf ls l) row column)
-  pub field-entry : (t : List ℕ) (a : Answer) → Reads t a → numberOf a ≡ 0 → (ls : List (List (List ℕ))) (l : List (List ℕ)) → Text t ls l → (row column : ℕ) (f : List ℕ) → FieldAt t row column f →
-      f ≡ entry (tableOf ls l) row column
+  pub part-stands :
+      (t : List ℕ) (a : Answer) → Reads t a → numberOf a ≡ 0 → (ls : List (List (List ℕ))) (l : List (List ℕ)) → Text t ls l
+      → (row column : ℕ) (s : Span) → Part t row column s → StandsAt t s (entry (tableOf ls l) row column)
+  pub field-entry :
+      (t : List ℕ) (row column : ℕ) (f : List ℕ) → FieldAt t row column f → (a : Answer) → Reads t a → numberOf a ≡ 0
+      → (ls : List (List (List ℕ))) (l : List (List ℕ)) → Text t ls l → f ≡ entry (tableOf ls l) row column
   pub refused-empty : (t : List ℕ) (a : Answer) → Reads t a → (numberOf a ≡ 0 → ⊥) → (row column : ℕ) (f : List ℕ) → FieldAt t row column f → f ≡ []
-  -- every part handed over is a field of the grammar
+  -- by row and column from 0, none beyond the counts
+  pub none-beyond :
+      (t : List ℕ) (rows columns : ℕ) → Reads t (Counts rows columns) → (row column : ℕ) → (rows ≤ row) ⊎ (columns ≤ column)
+      → (f : List ℕ) → FieldAt t row column f → f ≡ []
+  -- what `field` hands over are these bytes, and every one is a field of the grammar
+  pub handed-over :
+      (origin : ℕ × ℕ) (t : List ℕ) (row column : ℕ) (found : ℕ × ℕ) (f : List ℕ) → HandsOver origin t row column found f → FieldAt t row column f
   pub part-field : (t : List ℕ) (row column : ℕ) (f : List ℕ) → FieldAt t row column f → Field f

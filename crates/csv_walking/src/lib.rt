@@ -2,7 +2,7 @@
 ghost use mathlib.Core.Path.{_≡_};
 ghost use lib.ListN.{drop};
 ghost use Rattle.csv_walking.specs.Walking.{skipFrom, startOf, overAt, afterField, nextOf, first};
-ghost use Rattle.csv_walking.specs.Parts.{soughtOf, Found, Part, FieldAt};
+ghost use Rattle.csv_walking.specs.Parts.{soughtOf, Found, Part, HandsOver};
 use csv_grammar::Answer;
 use csv_grammar::Span;
 
@@ -171,7 +171,7 @@ pub fn part(text: &[u8], row: usize, column: usize) -> Span
 
 // The field of this row and column, a part of the text; empty where there is none or the text is refused.
 pub fn field(text: &[u8], row: usize, column: usize) -> &[u8]
-    ensures { λ r. ⌜ FieldAt (now (text .entry)) row column (now r) ⌝ }
+    ensures { λ r. ⌜ HandsOver (text .entry .ptr) (now (text .entry)) row column (r .ptr) (now r) ⌝ }
 {
     let s = part(text, row, column);
     let a = s.start;

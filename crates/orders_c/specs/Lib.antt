@@ -1,2 +1,3 @@
 -- The words of the calls for C.
 pub mod Words
+pub mod WordsLaws

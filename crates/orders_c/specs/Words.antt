@@ -1,14 +1,13 @@
 -- The words in which the calls for C hand their answers over.
 use Prim.Native.Nat.{ℕ, _-_}
 use mathlib.Core.Path.{_≡_}
-use mathlib.Core.Bool.{Bool, true, false, cond, not}
-use mathlib.Core.List.{List, [], _∷_}
+use mathlib.Core.Bool.{cond, not}
+use mathlib.Core.List.{List, [], _∷_, _++_}
 use lib.Dec.{eqb}
-use lib.ListN.{getD}
+use lib.ListN.{take, getD}
 use Rattle.csv_grammar.specs.declared.Answer.{Answer}
-use Rattle.csv_grammar.specs.declared.Answer.the-variants.{Counts, Refused}
 use Rattle.csv_grammar.specs.declared.Span.{Span}
-use Rattle.csv_grammar.specs.Faults.{numberOf, Reads}
+use Rattle.csv_grammar.specs.Faults.{numberOf, valuesOf, Reads}
 use Rattle.csv_walking.specs.declared.Cursor.{Cursor}
 use Rattle.csv_walking.specs.declared.Visit.{Visit}
 use Rattle.csv_walking.specs.declared.Visit.the-variants.{Field, Done}
@@ -16,10 +15,9 @@ use Rattle.csv_walking.specs.Parts.{Part}
 use Rattle.csv_contents.specs.declared.Written.{Written}
 use Rattle.csv_contents.specs.declared.Written.the-variants as written
 
--- rows and columns, or the place and 0
+-- the answer's values in two words: rows and columns, or the place and 0
 abbrev pub answerWords : Answer → List ℕ
-answerWords (Counts rows columns) = rows ∷ columns ∷ []
-answerWords (Refused number place) = place ∷ 0 ∷ []
+answerWords a = take 2 (valuesOf a ++ (0 ∷ []))
 
 -- the number and the words of the text's answer
 abbrev pub ReadsTo : (text : List ℕ) (number : ℕ) (words : List ℕ) → Type 0

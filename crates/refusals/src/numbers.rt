@@ -33,7 +33,7 @@ pub const REFUSED_KEY_TARGET_LENGTH: u64 = 9;
 // No key of that size with that IV leads to this state.
 pub const REFUSED_NO_KEY_LEADS: u64 = 10;
 
-// The text is none of the grammar from this place on.
+// The text, or the part, is not of the grammar.
 pub const REFUSED_NOT_CSV: u64 = 11;
 
 // A row's field count differs from the first row's.

@@ -1,7 +1,7 @@
 -- `measure_quoted` reads a field in quotes and counts the bytes of its content.
-use Prim.Native.Nat.{ℕ, _+_, _-_, _≤_}
-use mathlib.Core.Path.{_≡_, refl, sym, ap, _∙_}
-use mathlib.Core.Bool.{true, false}
+use Prim.Native.Nat.{_+_, _-_, _≤_}
+use mathlib.Core.Path.{_≡_, refl}
+use mathlib.Core.Bool.{false}
 use native.Mathlib.Omega.{arith}
 use borrow.Author.Needs.{needs}
 use lib.ListN.{length, drop}
@@ -18,7 +18,7 @@ abbrev μ-loop : tie.MeasureT-loop
 μ-loop part n i₀ k₀ i k = length part - i
 
 returns : tie.Need-returns Inv-loop μ-loop
-returns c = let g = c .before .before .before in no-closing-quote (g .args .part .now) (g .pre .0) (g .pre .1) (c .if1 .taken)
+returns c = let g = c .before .before .before .before in no-closing-quote (g .args .part .now) (g .pre .0) (g .pre .1) (c .no-field .ensures) (c .before .if1 .taken)
 
 loop-holds : tie.Need-loop-holds Inv-loop μ-loop
 loop-holds c = (refl, omega arith, omega arith)
@@ -37,10 +37,10 @@ shared-slice-read-if2 c = c .before .inside-run .ensures .within
 
 returns-2 : tie.Need-returns-2 Inv-loop μ-loop
 returns-2 c =
-    let r = c .before .before in
+    let r = c .before .before .before in
     let l = r .before .before in
     let g = l .before .before .before .before in
-    breaks-off (g .args .part .now) (g .pre .0) (g .pre .1) (l .loop .i) (r .inside-run .result) (l .loop .inv .0) (r .inside-run .ensures) (c .if2 .taken)
+    breaks-off (g .args .part .now) (g .pre .0) (g .pre .1) (l .loop .i) (r .inside-run .result) (l .loop .inv .0) (r .inside-run .ensures) (c .no-field2 .ensures) (c .before .if2 .taken)
 
 add-j : tie.Need-add-j Inv-loop μ-loop
 add-j c = let w = c .before .before .inside-run .ensures .within in omega arith
@@ -57,11 +57,11 @@ shared-slice-read-if4 c = c .before .if3 .left
 
 returns-4 : tie.Need-returns-4 Inv-loop μ-loop
 returns-4 c =
-    let f = c .before .before in
+    let f = c .before .before .before in
     let r = f .before .before .before in
     let l = r .before .before in
     let g = l .before .before .before .before in
-    text-after (g .args .part .now) (g .pre .0) (g .pre .1) (l .loop .i) (r .inside-run .result) (l .loop .inv .0) (r .inside-run .ensures) (f .before .if2 .left) (f .if3 .left) (c .if4 .taken)
+    text-after (g .args .part .now) (g .pre .0) (g .pre .1) (l .loop .i) (r .inside-run .result) (l .loop .inv .0) (r .inside-run .ensures) (f .before .if2 .left) (f .if3 .left) (c .no-field3 .ensures) (c .before .if4 .taken)
 
 -- the counts fit
 add-k-2 : tie.Need-add-k-2 Inv-loop μ-loop
@@ -96,9 +96,9 @@ loop-again c =
 
 returns-5 : tie.Need-returns-5 Inv-loop μ-loop
 returns-5 c =
-    let l = c .before in
+    let l = c .before .before in
     let g = l .before .before .before .before in
-    never-closed (g .args .part .now) (g .pre .0) (g .pre .1) (l .loop .i) (l .loop .inv .0) (c .loop-test .left)
+    never-closed (g .args .part .now) (g .pre .0) (g .pre .1) (l .loop .i) (c .no-field4 .ensures) (l .loop .inv .0) (c .before .loop-test .left)
 
 pub measure-quoted-spec : {M : Type 1} → statement M
 measure-quoted-spec =
@@ -108,19 +108,23 @@ measure-quoted-spec =
     μ-loop
     (λ c. search needs)
     (λ c. search needs)
+    (λ c κs. search needs)
     returns
     loop-holds
     inside-run-requires
     sub-k
     add-k
     shared-slice-read-if2
+    (λ c κs. search needs)
     returns-2
     add-j
     returns-3
     shared-slice-read-if4
+    (λ c κs. search needs)
     returns-4
     add-k-2
     add-i
     loop-less
     loop-again
+    (λ c κs. search needs)
     returns-5)

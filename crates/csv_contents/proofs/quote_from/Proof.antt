@@ -1,5 +1,5 @@
 -- `quote_from` finds the next quote: two bytes a turn, and each of them is before the last one.
-use Prim.Native.Nat.{_+_, _-_, _<_}
+use Prim.Native.Nat.{_+_, _-_}
 use native.Mathlib.Omega.{arith}
 use borrow.Author.Needs.{needs}
 use lib.ListN.{length}

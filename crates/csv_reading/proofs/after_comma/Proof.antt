@@ -1,5 +1,4 @@
 -- `after_comma` refuses the comma after the 32nd field, and else goes on.
-use mathlib.Core.Path.{_∙_}
 use borrow.Author.Needs.{needs}
 use borrow.Author.Tests.{eq-eqb, ne-eqb}
 use Rattle.csv_reading.specs.Steps.{afterComma}

@@ -1,5 +1,4 @@
 -- `is_blank` tests for a line of no bytes.
-use borrow.Author.Needs.{needs}
 use borrow.Author.Tests.{eq-eqb, ne-eqb}
 use Rattle.csv_reading.specs.Steps.{blankFrom}
 use Rattle.csv_reading.proofs.is_blank.Statement.{statement}

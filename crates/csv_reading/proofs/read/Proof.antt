@@ -1,5 +1,5 @@
 -- `read` answers as the grammar says: its loop takes the automaton's steps, a field at a time.
-use Prim.Native.Nat.{ℕ, suc, _-_, _<_, _≤_}
+use Prim.Native.Nat.{suc, _-_, _≤_}
 use mathlib.Core.Path.{_≡_, refl, sym, _∙_, subst, subst⁻¹}
 use mathlib.Core.Bool.{Bool}
 use native.Mathlib.Omega.{arith}

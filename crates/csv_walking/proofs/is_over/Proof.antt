@@ -1,8 +1,6 @@
 -- `is_over` tests for the end of a walk; before the text's end it is never over.
-use mathlib.Core.Path.{_≡_, refl, sym}
-use mathlib.Core.Bool.{Bool, true, false, cond}
-use native.Mathlib.Omega.{arith}
-use borrow.Author.Tests.{le-ltb, lt-leb, le-leb}
+use mathlib.Core.Path.{sym}
+use borrow.Author.Tests.{le-leb}
 use Rattle.csv_walking.proofs.Stepping.{not-over}
 use Rattle.csv_walking.proofs.is_over.Statement.{statement}
 use Rattle.csv_walking.proofs.is_over.Tie as tie

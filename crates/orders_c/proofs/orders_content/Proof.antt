@@ -1,8 +1,7 @@
 -- `orders_content` hands over the answer of `content`.
-use mathlib.Core.Path.{_≡_, sym, ap, _∙_}
+use mathlib.Core.Path.{sym, ap, _∙_}
 use borrow.Author.Needs.{needs}
-use lib.ListN.{length}
-use Rattle.csv_contents.specs.Contents.{numberOf, answerOf}
+use Rattle.csv_contents.specs.Contents.{numberOf}
 use Rattle.orders_c.specs.Words.{writtenWords}
 use Rattle.orders_c.proofs.orders_content.Statement.{statement}
 use Rattle.orders_c.proofs.orders_content.Tie as tie

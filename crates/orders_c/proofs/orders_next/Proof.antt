@@ -2,7 +2,6 @@
 use mathlib.Core.Path.{_≡_, sym, ap, _∙_}
 use borrow.Author.Needs.{needs}
 use Rattle.csv_walking.specs.declared.Visit.{Visit}
-use Rattle.csv_walking.specs.declared.Visit.the-variants.{Field, Done}
 use Rattle.csv_walking.specs.Walking.{nextOf}
 use Rattle.csv_walking.proofs.WalkingLaws.{walking-laws}
 use Rattle.orders_c.specs.Words.{cursorIn, nextNumber, nextCursor, nextPart}

@@ -1,0 +1,2 @@
+-- The proofs of the words.
+pub mod WordsLaws
