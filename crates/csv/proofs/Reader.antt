@@ -15,8 +15,8 @@ use Rattle.csv_walking.proofs.WalkingLaws.{walking-laws}
 use Rattle.csv_contents.proofs.ContentsLaws.{contents-laws}
 use Rattle.csv.specs.Reader.{ReadingRefuses, Reader}
 
-reading : (t : List ℕ) (a : Answer) → Reads t a → ReadingRefuses t a
-reading t (Counts rows columns) h =
+counted : (t : List ℕ) (rows columns : ℕ) → Reads t (Counts rows columns) → ReadingRefuses t (Counts rows columns)
+counted t rows columns h =
     record {
       order = λ p. refl;
       refuses = λ n. absurd (n refl);
@@ -26,7 +26,9 @@ reading t (Counts rows columns) h =
       accepts = λ n. refl;
       accepts-only = λ e. h .0;
     }
-reading t (Refused number place) h =
+
+refused : (t : List ℕ) (number place : ℕ) → Reads t (Refused number place) → ReadingRefuses t (Refused number place)
+refused t number place h =
     record {
       order = λ p. refl;
       refuses = λ n. (place, refl, h .0, h .1);
@@ -34,6 +36,10 @@ reading t (Refused number place) h =
       accepts = λ n. none-applies number (faultLines t place) (h .1) (n place);
       accepts-only = λ e. absurd (h .2 e);
     }
+
+reading : (t : List ℕ) (a : Answer) → Reads t a → ReadingRefuses t a
+reading t (Counts rows columns) h = counted t rows columns h
+reading t (Refused number place) h = refused t number place h
 
 pub reader : Reader
 reader =
