@@ -203,7 +203,7 @@ grammar-laws =
       accepts-only = accepts-only;
       even-rows = even-rows;
       even-accepted = λ t a h ls l p w. ap numberOf (is-read t a h) ∙ even-accepted p w;
-      entry-field = λ t ls l p. entry-field p;
+      entry-field = λ row column t ls l p. entry-field p row column;
       table-stands = λ t ls l p. table-stands p;
       entry-stands = λ t ls l p. entry-stands p;
     }

@@ -34,7 +34,7 @@ pub record GrammarLaws : Type 0 where
       (t : List ℕ) (a : Answer) → Reads t a → (ls : List (List (List ℕ))) (l : List (List ℕ)) → Text t ls l → Even (tableOf ls l) → numberOf a ≡ 0
   -- what stands in a table is a field, and stands at its place
   pub entry-field :
-      (t : List ℕ) (ls : List (List (List ℕ))) (l : List (List ℕ)) → Text t ls l → (row column : ℕ) → Field (entry (tableOf ls l) row column)
+      (row column : ℕ) (t : List ℕ) (ls : List (List (List ℕ))) (l : List (List ℕ)) → Text t ls l → Field (entry (tableOf ls l) row column)
   -- row by row, field by field: as many places as fields
   pub table-stands : (t : List ℕ) (ls : List (List (List ℕ))) (l : List (List ℕ)) → Text t ls l → RowsStand t (spansOf ls l) (tableOf ls l)
   pub entry-stands :
