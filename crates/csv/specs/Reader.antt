@@ -1,5 +1,5 @@
 -- Document 02, item 1, as a statement; its proof is proofs/Reader.antt: `reader : Reader`. What is said of the grammar, of walks and parts and of contents
--- stands with them; `read` itself promises `Reads`, `part` promises `Part`, `field` promises `FieldAt`.
+-- stands with them; `read` itself promises `Reads`, `part` promises `Part`, `field` promises `HandsOver`.
 use Prim.Native.Nat.{ℕ, _<_}
 use mathlib.Core.Path.{_≡_}
 use mathlib.Core.List.{List, [], _∷_}

@@ -1,6 +1,7 @@
 -- The laws of contents.
 use Prim.Native.Nat.{ℕ, _<_, _≤_}
 use mathlib.Core.Path.{_≡_, refl, sym, ap, _∙_, subst, subst⁻¹}
+use mathlib.Core.Logic.{_⊎_, inl, inr}
 use mathlib.Core.Bool.{Bool, true, false, true≢false, cond, not}
 use mathlib.Core.List.{List, [], _∷_, _++_}
 use native.Mathlib.Nat.{not-le-of-lt}
@@ -17,7 +18,7 @@ use Rattle.csv_fields.specs.Ends.{isTextData, isInside, plainEnd, quotedEnd, fi
 use Rattle.csv_fields.proofs.Bytes.{textdata, textdata-bounds}
 use Rattle.csv_contents.specs.declared.Written.the-variants.{Bytes, Refused}
 use Rattle.csv_contents.specs.Contents.{Unescaped, Content, unquoted, contentOf, isField, contentTests, answerOf, targetOf, numberOf, valuesOf, contentLines}
-use Rattle.csv_contents.specs.ContentsLaws.{ContentsLaws}
+use Rattle.csv_contents.specs.ContentsLaws.{doubled, ContentsLaws}
 use Rattle.csv_contents.proofs.Measuring.{field-is, is-field}
 
 -- ---- the relation and the function
@@ -57,6 +58,19 @@ unescaped-no-longer (Unescaped.two-quotes p) = let l = unescaped-no-longer p in 
 no-longer : {f c : List ℕ} → Content f c → length c ≤ length f
 no-longer (Content.non-escaped p) = omega arith
 no-longer (Content.escaped {s = s} p) = let l = unescaped-no-longer p in omega (arith, length-append s (34 ∷ []))
+
+unescaped-doubled : {s c : List ℕ} → Unescaped s c → s ≡ doubled c
+unfolding doubled
+unescaped-doubled Unescaped.none = refl
+unescaped-doubled (Unescaped.textdata {b = b} h p) = rw (ne-eqb b 34 (textdata-bounds b (textdata b h) .1), unescaped-doubled p)
+unescaped-doubled (Unescaped.comma p) = rw (unescaped-doubled p)
+unescaped-doubled (Unescaped.cr p) = rw (unescaped-doubled p)
+unescaped-doubled (Unescaped.lf p) = rw (unescaped-doubled p)
+unescaped-doubled (Unescaped.two-quotes p) = rw (unescaped-doubled p)
+
+written-back : {f c : List ℕ} → Content f c → (G.NonEscaped f × (c ≡ f)) ⊎ (f ≡ 34 ∷ (doubled c ++ (34 ∷ [])))
+written-back (Content.non-escaped p) = inl (p, refl)
+written-back (Content.escaped p) = inr (rw (unescaped-doubled p))
 
 -- a byte that is no quote, before the closing one
 unquoted-byte : (b : ℕ) (s c : List ℕ) → (b ≡ 34 → ⊥) → unquoted (s ++ (34 ∷ [])) ≡ c → unquoted (b ∷ (s ++ (34 ∷ []))) ≡ b ∷ c
@@ -157,6 +171,7 @@ contents-laws =
       has-content = λ f h. has-content h;
       one-content = λ f c d p q. sym (content-is p) ∙ content-is q;
       only-fields = λ f c p. only-fields p;
+      written-back = λ f c p. written-back p;
       no-longer = λ f c p. no-longer p;
       refuses = refuses;
       refused-place = refused-place;
@@ -167,5 +182,7 @@ contents-laws =
       worked-short = refl;
       worked-answer = refl;
       worked-target = refl;
+      worked-plain = refl;
+      worked-inside = refl;
       worked-no-field = refl;
     }

@@ -129,10 +129,11 @@ fn run_stop(q: usize, n: usize) -> usize
     requires { ⌜ q < n ⌝ }
     ensures { λ r. ⌜ r ≡ runStop q n ⌝ }
 {
-    if q + 1 < n {
-        return q + 1;
+    let next = q + 1;
+    if n <= next {
+        return q;
     }
-    q
+    next
 }
 
 // The content of a field in quotes to the front of a target, run by run.

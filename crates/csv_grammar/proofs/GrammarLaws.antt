@@ -1,23 +1,25 @@
 -- The laws of the grammar.
-use Prim.Native.Nat.{ℕ, zero, suc, _<_}
+use Prim.Native.Nat.{ℕ, zero, suc, _<_, _≤_}
 use mathlib.Core.Path.{_≡_, refl, sym, ap, _∙_, subst, subst⁻¹}
 use mathlib.Core.Logic.{_⊎_, inl, inr, ⊎-elim}
-use mathlib.Core.Bool.{true, false, cond}
-use mathlib.Core.List.{List, [], _∷_, _++_}
+use mathlib.Core.Bool.{Bool, true, false, cond}
+use mathlib.Core.List.{List, [], _∷_, _++_, append-assoc, append-nil}
 use native.Mathlib.Omega.{arith}
 use lib.ListN.{length, drop, getD, take-append-drop}
+use lib.Seq.{getD-append-seam}
 use Rattle.refusals.specs.Numbers.{accepted}
 use Rattle.refusals.specs.Lines.{NumberOfFirst, NoneApplies}
 use Rattle.csv_grammar.specs.declared.Answer.{Answer}
 use Rattle.csv_grammar.specs.declared.Answer.the-variants.{Counts, Refused}
 use Rattle.csv_grammar.specs.Grammar as G
-use Rattle.csv_grammar.specs.Table.{isBlank, skips, addLine, addLines, tableOf, columnsOf, entry, Even}
+use Rattle.csv_grammar.specs.Table.{isBlank, skips, addLine, addLines, tableOf, withBytes, columnsOf, entry, Even}
+use Rattle.csv_grammar.specs.Places.{noSpan}
 use Rattle.csv_grammar.specs.Faults.{NotCsvAt, RaggedAt, TooManyAt, faultLines, numberOf, Reads}
 use Rattle.csv_grammar.specs.GrammarLaws.{GrammarLaws}
-use Rattle.csv_grammar.proofs.Automaton.{Mode, Fresh, Bare, Quoted, Closed, Return, Dead, kindOf, actOf, readOf}
-use Rattle.csv_grammar.proofs.Letters.{split}
+use Rattle.csv_grammar.proofs.Automaton.{Kind, Plain, Comma, Quote, Cr, Lf, Control, Mode, Fresh, Bare, Quoted, Closed, Return, Dead, kindOf, actOf, readOf}
+use Rattle.csv_grammar.proofs.Letters.{Told, told, text-data, split}
 use Rattle.csv_grammar.proofs.Division.{Division, stepBy, step, run, begin, lastLine, Ends, run-append, complete, unique}
-use Rattle.csv_grammar.proofs.Sound.{okay, sound, barred, quote-ends, lf-ends}
+use Rattle.csv_grammar.proofs.Sound.{no-ends-dead, okay, sound, dead-run, barred, quote-ends, lf-ends, breaks-off-only}
 use Rattle.csv_grammar.proofs.Faults.{Fault, Right, Before, Faulty, fault-11, fault-12, fault-13, faulty}
 use Rattle.csv_grammar.proofs.Verdict.{right, first}
 use Rattle.csv_grammar.proofs.Even.{even}
@@ -29,21 +31,21 @@ use Rattle.csv_grammar.proofs.Places.{table-stands, entry-stands}
 none-there : {t : List ℕ} {q : ℕ} → ((m : ℕ) → Fault t q m → ⊥) → NoneApplies (faultLines t q)
 none-there h = (λ f. h 11 (fault-11 f), (λ f. h 12 (fault-12 f), (λ f. h 13 (fault-13 f), tt)))
 
--- one number alone applies at a place
-number-there : {t : List ℕ} {p n : ℕ} → Faulty t p n → ((m : ℕ) → Fault t p m → n ≡ m) → NumberOfFirst n (faultLines t p)
+-- the lowest number at a place
+number-there : {t : List ℕ} {p n : ℕ} → Faulty t p n → ((m : ℕ) → Fault t p m → n ≤ m) → NumberOfFirst n (faultLines t p)
 number-there (inl f) h = inl (f .1, f .0)
-number-there {n = n} (inr (inl f)) h = inr (λ g. let e : n ≡ 11 = h 11 (fault-11 g) in omega (arith, f .0), inl (f .1, f .0))
+number-there {n = n} (inr (inl f)) h = inr (λ g. let e : n ≤ 11 = h 11 (fault-11 g) in omega (arith, f .0), inl (f .1, f .0))
 number-there {n = n} (inr (inr f)) h =
-    inr (λ g. let e : n ≡ 11 = h 11 (fault-11 g) in omega (arith, f .0), inr (λ g. let e : n ≡ 12 = h 12 (fault-12 g) in omega (arith, f .0), inl (f .1, f .0)))
+    inr (λ g. let e : n ≤ 11 = h 11 (fault-11 g) in omega (arith, f .0), inr (λ g. let e : n ≤ 12 = h 12 (fault-12 g) in omega (arith, f .0), inl (f .1, f .0)))
 
 not-accepted : {t : List ℕ} {p n : ℕ} → Faulty t p n → n ≡ accepted → ⊥
 not-accepted (inl f) e = omega (arith, f .0)
 not-accepted (inr (inl f)) e = omega (arith, f .0)
 not-accepted (inr (inr f)) e = omega (arith, f .0)
 
-same-number : {q m n p : ℕ} → Before q m (Refused n p) → p ≡ q → n ≡ m
-same-number (inl h) e = absurd (omega arith)
-same-number (inr h) e = h .1
+no-lower : {q m n p : ℕ} → Before q m (Refused n p) → p ≡ q → n ≤ m
+no-lower (inl h) e = absurd (omega arith)
+no-lower (inr h) e = h .1
 
 not-earlier : {q m n p : ℕ} → Before q m (Refused n p) → q < p → ⊥
 not-earlier (inl h) l = omega arith
@@ -55,11 +57,22 @@ reads t = go (readOf t) (right t) (λ (q m : ℕ) (f : Fault t q m). first f)
     go : (a : Answer) → Right t a → ((q m : ℕ) → Fault t q m → Before q m a) → Reads t a
     go (Counts r c) w f = (λ q. none-there (λ m. f q m), w .0, w .1, w .2, w .3, w .4)
     go (Refused n p) w f =
-        (λ q l. none-there (λ m g. not-earlier (f q m g) l), number-there (faulty w) (λ m g. same-number (f p m g) refl), not-accepted (faulty w))
+        (λ q l. none-there (λ m g. not-earlier (f q m g) l), number-there (faulty w) (λ m g. no-lower (f p m g) refl), not-accepted (faulty w))
 
 -- the fault that a refusal names
 named : {t : List ℕ} {p n : ℕ} → NumberOfFirst n (faultLines t p) → (n ≡ accepted → ⊥) → Fault t p n
 named {t} {p} {n} w z = ⊎-elim (λ h. subst⁻¹ (Fault t p) (h .1) (fault-11 (h .0))) (λ x. ⊎-elim (λ h. subst⁻¹ (Fault t p) (h .1) (fault-12 (h .0))) (λ y. ⊎-elim (λ h. subst⁻¹ (Fault t p) (h .1) (fault-13 (h .0))) (λ e. absurd (z (e .1))) (y .1)) (x .1)) w
+
+lowest-named : {t : List ℕ} {p n m : ℕ} → NumberOfFirst n (faultLines t p) → Faulty t p m → n ≤ m
+lowest-named (inl h) (inl f) = omega (arith, h .1, f .0)
+lowest-named (inl h) (inr (inl f)) = omega (arith, h .1, f .0)
+lowest-named (inl h) (inr (inr f)) = omega (arith, h .1, f .0)
+lowest-named (inr h) (inl f) = absurd (h .0 (f .1))
+lowest-named (inr (h, inl g)) (inr (inl f)) = omega (arith, g .1, f .0)
+lowest-named (inr (h, inl g)) (inr (inr f)) = omega (arith, g .1, f .0)
+lowest-named (inr (h, inr g)) (inr (inl f)) = absurd (g .0 (f .1))
+lowest-named (inr (h, inr (g, inl k))) (inr (inr f)) = omega (arith, k .1, f .0)
+lowest-named (inr (h, inr (g, inr k))) (inr (inr f)) = absurd (k .0 (f .1))
 
 none-named : {t : List ℕ} {p n : ℕ} → NoneApplies (faultLines t p) → Fault t p n → ⊥
 none-named h f = ⊎-elim (λ g. h .0 (g .1)) (λ x. ⊎-elim (λ g. h .1 .0 (g .1)) (λ g. h .1 .1 .0 (g .1)) x) (faulty f)
@@ -78,7 +91,10 @@ is-read t (Refused n p) h = go (readOf t) (right t) (first (named (h .1) (h .2))
     go : (b : Answer) → Right t b → Before p n b → Refused n p ≡ b
     go (Counts r c) w f = absurd f
     go (Refused m q) w (inl l) = absurd (none-named (h .0 q l) w)
-    go (Refused m q) w (inr e) = λ j. Refused (sym (e .1) j) (sym (e .0) j)
+    go (Refused m q) w (inr e) =
+        let l = lowest-named (h .1) (faulty (subst (λ (x : ℕ). Fault t x m) (e .0) w)) in
+        let n≡m : n ≡ m = omega (arith, e .1) in
+        λ j. Refused (n≡m j) (sym (e .0) j)
 
 pub one-answer : (t : List ℕ) (a b : Answer) → Reads t a → Reads t b → a ≡ b
 one-answer t a b p q = is-read t a p ∙ sym (is-read t b q)
@@ -106,6 +122,44 @@ even-rows : (t : List ℕ) (a : Answer) → Reads t a → numberOf a ≡ 0 → (
 even-rows t (Counts r c) h e ls l p = even p (sym (is-read t (Counts r c) h))
 even-rows t (Refused n p) h e ls l x = absurd (h .2 e)
 
+-- ---- bytes that stand in no text
+
+control-dead : (d : Division) (b : ℕ) (m : Mode) → stepBy d b (actOf m Control) .mode ≡ Dead
+control-dead d b Fresh = refl
+control-dead d b Bare = refl
+control-dead d b Quoted = refl
+control-dead d b Closed = refl
+control-dead d b Return = refl
+control-dead d b Dead = refl
+
+abbrev NoControl : ℕ → Type 0
+NoControl b = (b < 32 → (b ≡ 13) ⊎ (b ≡ 10)) × (b ≡ 127 → ⊥)
+
+textdata-no-control : {b : ℕ} → G.TextData b → NoControl b
+textdata-no-control (inl h) = (λ l. absurd (omega arith), omega arith)
+textdata-no-control (inr (inl h)) = (λ l. absurd (omega arith), omega arith)
+textdata-no-control (inr (inr (inl h))) = (λ l. absurd (omega arith), omega arith)
+textdata-no-control (inr (inr (inr h))) = (λ l. absurd (omega arith), omega arith)
+
+no-control : (s u : List ℕ) (b : ℕ) → G.IsText (s ++ (b ∷ u)) → NoControl b
+no-control s u b g = go (kindOf b) refl (told b)
+  where
+    d : Division
+    d = run begin s
+
+    dies : kindOf b ≡ Control → ⊥
+    dies e =
+        let x : step d b .mode ≡ Dead = ap (λ (k : Kind). stepBy d b (actOf (d .mode) k) .mode) e ∙ control-dead d b (d .mode) in
+        no-ends-dead (subst Ends (ap (λ (r : Division). r .mode) (run-append begin s (b ∷ u)) ∙ dead-run (step d b) u x) (complete (g .2) .0))
+
+    go : (k : Kind) → kindOf b ≡ k → Told b k → NoControl b
+    go Plain e h = textdata-no-control h
+    go Comma e h = (λ l. absurd (omega arith), omega arith)
+    go Quote e h = (λ l. absurd (omega arith), omega arith)
+    go Cr e h = (λ l. inl h, omega arith)
+    go Lf e h = (λ l. inr h, omega arith)
+    go Control e h = absurd (dies e)
+
 -- ---- lines and fields
 
 breaks-off : (t : List ℕ) → G.Begins t → G.IsText t ⊎ (G.IsText (t ++ (34 ∷ [])) ⊎ G.IsText (t ++ (10 ∷ [])))
@@ -121,20 +175,6 @@ breaks-off t g = go (run begin t .mode) refl
     go Closed e = inl (whole (subst⁻¹ Ends e Ends.closed))
     go Return e = inr (inr (lf-ends (okay t) e))
     go Dead e = absurd (barred t e g)
-
--- a whole text becomes no other by a quote or an LF
-open-byte : (d : Division) {m : Mode} → Ends m → (Ends (stepBy d 34 (actOf m (kindOf 34)) .mode) → ⊥) × (Ends (stepBy d 10 (actOf m (kindOf 10)) .mode) → ⊥)
-unfolding kindOf
-open-byte d Ends.fresh = (λ e. elim e [ ], λ e. elim e [ ])
-open-byte d Ends.bare = (λ e. elim e [ ], λ e. elim e [ ])
-open-byte d Ends.closed = (λ e. elim e [ ], λ e. elim e [ ])
-
-with-byte : (t : List ℕ) (b : ℕ) → G.IsText (t ++ (b ∷ [])) → Ends (step (run begin t) b .mode)
-with-byte t b g = subst (λ (d : Division). Ends (d .mode)) (run-append begin t (b ∷ [])) (complete (g .2) .0)
-
-breaks-off-only : (t : List ℕ) → G.IsText (t ++ (34 ∷ [])) ⊎ G.IsText (t ++ (10 ∷ [])) → G.IsText t → ⊥
-breaks-off-only t (inl g) w = open-byte (run begin t) (complete (w .2) .0) .0 (with-byte t 34 g)
-breaks-off-only t (inr g) w = open-byte (run begin t) (complete (w .2) .0) .1 (with-byte t 10 g)
 
 no-nil : {A : Type 0} {b : ℕ} {s : List ℕ} → b ∷ s ≡ [] → A
 no-nil e = let z : _≡_ {A = ℕ} 0 1 = cc in absurd (omega arith)
@@ -159,6 +199,26 @@ several (G.Line.more h q) (b ∷ f) = refl
 pub blank-line : {s : List ℕ} {fs : List (List ℕ)} → G.Line s fs → Blank s fs
 blank-line (G.Line.one {f = f} h) = no-bytes f
 blank-line (G.Line.more {f = f} {s = s} {fs = fs} h q) = comma-bytes f s fs (several q f)
+
+-- ---- rows
+
+rows-added : (rows ls : List (List (List ℕ))) (l : List (List ℕ)) → cond (isBlank l) (addLines rows ls) (addLines rows ls ++ (l ∷ [])) ≡ rows ++ withBytes (ls ++ (l ∷ []))
+rows-added rows [] l = go (isBlank l)
+  where
+    go : (y : Bool) → cond y rows (rows ++ (l ∷ [])) ≡ rows ++ cond y [] (l ∷ [])
+    go true = sym (append-nil rows)
+    go false = refl
+rows-added rows (line ∷ ls) l = rows-added (addLine rows line) ls l ∙ go (isBlank line)
+  where
+    go : (y : Bool) → cond y rows (rows ++ (line ∷ [])) ++ withBytes (ls ++ (l ∷ [])) ≡ rows ++ cond y (withBytes (ls ++ (l ∷ []))) (line ∷ withBytes (ls ++ (l ∷ [])))
+    go true = refl
+    go false = append-assoc rows (line ∷ []) (withBytes (ls ++ (l ∷ [])))
+
+-- what stands at a row and column
+from-0 : {A : Type 0} (none : A) (above below : List (List A)) (left right : List A) (x : A) →
+    getD (getD (above ++ ((left ++ (x ∷ right)) ∷ below)) (length above) []) (length left) none ≡ x
+from-0 none above below left right x =
+    ap (λ (r : List _). getD r (length left) none) (getD-append-seam above (left ++ (x ∷ right)) below []) ∙ getD-append-seam left x right none
 
 -- ---- what stands in a table is a field
 
@@ -194,7 +254,15 @@ pub grammar-laws : GrammarLaws
 grammar-laws =
     record {
       one-division = λ t ls ms l k p q. unique p q;
+      ordinary = λ b h q c d. let x = text-data b h q c d in (
+        G.Field.non-escaped (G.NonEscaped.textdata x G.NonEscaped.none),
+        G.Field.escaped (G.InQuotes.textdata x G.InQuotes.none),
+      );
+      no-control = no-control;
       blank-line = λ s fs q. blank-line q;
+      rows-are-lines = rows-added [];
+      entry-from-0 = from-0 [];
+      span-from-0 = from-0 noSpan;
       breaks-off = breaks-off;
       breaks-off-only = breaks-off-only;
       fault-numbers = λ t p. refl;

@@ -22,7 +22,7 @@ Told b Cr = b ≡ 13
 Told b Lf = b ≡ 10
 Told b Control = ((b < 32) × (b ≡ 13 → ⊥) × (b ≡ 10 → ⊥)) ⊎ (b ≡ 127)
 
-text-data : (b : ℕ) → 32 ≤ b → (b ≡ 34 → ⊥) → (b ≡ 44 → ⊥) → (b ≡ 127 → ⊥) → TextData b
+pub text-data : (b : ℕ) → 32 ≤ b → (b ≡ 34 → ⊥) → (b ≡ 44 → ⊥) → (b ≡ 127 → ⊥) → TextData b
 text-data b h q k d = go (ltb b 34) (ltb b 44) (ltb b 127) refl refl refl
   where
     go : (x y z : Bool) → ltb b 34 ≡ x → ltb b 44 ≡ y → ltb b 127 ≡ z → TextData b

@@ -48,8 +48,8 @@ row-entry : (t : List ℕ) (ss : List Span) (fs : List (List ℕ)) → RowStands
 row-entry t [] [] w k = nothing-stands t
 row-entry t [] (f ∷ fs) w k = absurd w
 row-entry t (s ∷ ss) [] w k = absurd w
-row-entry t (s ∷ ss) (f ∷ fs) w zero = w .0
-row-entry t (s ∷ ss) (f ∷ fs) w (suc k) = row-entry t ss fs (w .1) k
+row-entry t (s ∷ ss) (f ∷ fs) w zero = w .1
+row-entry t (s ∷ ss) (f ∷ fs) w (suc k) = row-entry t ss fs (w .2) k
 
 rows-entry : (t : List ℕ) (ss : List (List Span)) (rows : List (List (List ℕ))) → RowsStand t ss rows → (r k : ℕ) → StandsAt t (spanAt ss r k) (entry rows r k)
 rows-entry t [] [] w r k = nothing-stands t
@@ -59,11 +59,11 @@ rows-entry t (s ∷ ss) (f ∷ fs) w zero k = row-entry t s f (w .0) k
 rows-entry t (s ∷ ss) (f ∷ fs) w (suc r) k = rows-entry t ss fs (w .1) r k
 
 line-stands : (t : List ℕ) {s : List ℕ} {fs : List (List ℕ)} → G.Line s fs → (a : List ℕ) (p : ℕ) → drop p t ≡ s ++ a → p ≤ length t → RowStands t (lineSpans p fs) fs
-line-stands t (G.Line.one {f = f} h) a p e l = (stands t f a p e l, tt)
+line-stands t (G.Line.one {f = f} h) a p e l = (h, stands t f a p e l, tt)
 line-stands t (G.Line.more {f = f} {s = s} h k) a p e l =
     let e2 : drop p t ≡ f ++ (44 ∷ (s ++ a)) = e ∙ append-assoc f (44 ∷ s) a in
     let n = fits t f (44 ∷ (s ++ a)) p e2 l in
-    (stands t f (44 ∷ (s ++ a)) p e2 l, line-stands t k a (p + length f + 1) (past-comma t f (s ++ a) p e2) (omega arith))
+    (h, stands t f (44 ∷ (s ++ a)) p e2 l, line-stands t k a (p + length f + 1) (past-comma t f (s ++ a) p e2) (omega arith))
 
 -- the rows that these lines add to those before them, and that they stand at their places
 abbrev Added : List ℕ → List (List (List ℕ)) → List (List Span) → List (List (List ℕ)) → Type 0

@@ -1,6 +1,7 @@
 -- What the automaton has divided is of the grammar, and can be continued.
 use Prim.Native.Nat.{ℕ}
 use mathlib.Core.Path.{_≡_, refl, ap, _∙_, subst, subst⁻¹, subst₂}
+use mathlib.Core.Logic.{_⊎_, inl, inr}
 use mathlib.Core.List.{List, [], _∷_, _++_, append-assoc, append-nil}
 use Rattle.csv_grammar.specs.Grammar as G
 use Rattle.csv_grammar.proofs.Automaton.{Kind, Plain, Comma, Quote, Cr, Lf, Control, Mode, Fresh, Bare, Quoted, Closed, Return, Dead, kindOf, actOf}
@@ -167,3 +168,17 @@ dead-run d (b ∷ u) e = dead-run (step d b) u (ap (λ (m : Mode). stepBy d b (a
 pub barred : (t : List ℕ) → run begin t .mode ≡ Dead → G.Begins t → ⊥
 barred t e g =
     no-ends-dead (subst Ends (ap (λ (d : Division). d .mode) (run-append begin t (g .0)) ∙ dead-run (run begin t) (g .0) e) (complete (g .1 .2) .0))
+
+-- a whole text becomes no other by a quote or an LF
+open-byte : (d : Division) {m : Mode} → Ends m → (Ends (stepBy d 34 (actOf m (kindOf 34)) .mode) → ⊥) × (Ends (stepBy d 10 (actOf m (kindOf 10)) .mode) → ⊥)
+unfolding kindOf
+open-byte d Ends.fresh = (λ e. elim e [ ], λ e. elim e [ ])
+open-byte d Ends.bare = (λ e. elim e [ ], λ e. elim e [ ])
+open-byte d Ends.closed = (λ e. elim e [ ], λ e. elim e [ ])
+
+with-byte : (t : List ℕ) (b : ℕ) → G.IsText (t ++ (b ∷ [])) → Ends (step (run begin t) b .mode)
+with-byte t b g = subst (λ (d : Division). Ends (d .mode)) (run-append begin t (b ∷ [])) (complete (g .2) .0)
+
+pub breaks-off-only : (t : List ℕ) → G.IsText (t ++ (34 ∷ [])) ⊎ G.IsText (t ++ (10 ∷ [])) → G.IsText t → ⊥
+breaks-off-only t (inl g) w = open-byte (run begin t) (complete (w .2) .0) .0 (with-byte t 34 g)
+breaks-off-only t (inr g) w = open-byte (run begin t) (complete (w .2) .0) .1 (with-byte t 10 g)

@@ -10,16 +10,17 @@ use native.Mathlib.Omega.{arith}
 use lib.Dec.{eqb}
 use lib.ListN.{length}
 use borrow.Author.Tests.{eqb-true, eqb-false, ne-eqb, eq-eqb}
-use Rattle.csv_grammar.specs.declared.Answer.the-variants.{Counts}
+use Rattle.csv_grammar.specs.declared.Answer.{Answer}
+use Rattle.csv_grammar.specs.declared.Answer.the-variants.{Counts, Refused}
 use Rattle.csv_grammar.specs.Grammar as G
 use Rattle.csv_grammar.specs.Table.{rowsOf, columnsOf}
 use Rattle.csv_grammar.specs.Faults.{Ragged}
-use Rattle.csv_grammar.proofs.Faults.{Fault, barred, unfinished, uneven, uneven-end, wide, Right, Before}
+use Rattle.csv_grammar.proofs.Faults.{Fault, barred, unfinished, uneven, uneven-open, uneven-end, wide, Right, Before}
 use Rattle.csv_grammar.proofs.Automaton.{Counter, Mode, Fresh, Bare, Quoted, Closed, Return, Dead, Act, Letter, Inside, Close, Separate, End, Next, Refuse, kindOf, actOf, lastAct, blankLine, counted, moved, faultOf, endOf, readFrom, readOf, start}
 use Rattle.csv_grammar.proofs.Letters.{told, split}
 use Rattle.csv_grammar.proofs.Division.{Division, at, stepBy, step, run, begin, lastLine, Ends, run-append, complete}
 use Rattle.csv_grammar.proofs.Sound as S
-use Rattle.csv_grammar.proofs.Sound.{Okay, okay, okay-step, sound, begins}
+use Rattle.csv_grammar.proofs.Sound.{Okay, okay, okay-step, sound, begins, breaks-off-only}
 use Rattle.csv_grammar.proofs.Counted.{counterOf, Tells, tells, length-last, counts, stop-counts, okay-blank}
 
 -- what stands next: a byte or the end
@@ -145,8 +146,8 @@ right t = right-from t [] (λ e. let k : _≡_ {A = ℕ} 0 1 = cc in omega arith
 early : (a : List ℕ) (d : Division) {t : List ℕ} → Okay d t → (i : ℕ) (u : List ℕ) → eqb (faultAt (run d a) u) 0 ≡ false →
     Before (i + length a) (faultAt (run d a) u) (readFrom (counterOf d) i (a ++ u))
 unfolding readFrom endOf
-early [] d o i [] nz = rw nz (inr (omega arith, refl))
-early [] d o i (b ∷ u) nz = rw nz (inr (omega arith, refl))
+early [] d o i [] nz = rw nz (inr (omega arith, omega arith))
+early [] d o i (b ∷ u) nz = rw nz (inr (omega arith, omega arith))
 early (x ∷ a) d o i u nz =
     split (Before (i + suc (length a)) (faultAt (run (step d x) a) u)) (eqb (faultAt d (x ∷ [])) 0)
     (λ z.
@@ -204,16 +205,26 @@ module _ {a : List ℕ} {ls : List (List (List ℕ))} {l : List (List ℕ)} (t :
   wide-here e =
       simp (eq-eqb (length (run begin a .line) + 1) 32 (sym (length-last (run begin a .line) (run begin a .field)) ∙ (ap length (complete t .2) ∙ e)))
 
--- THE EARLIEST FAULT IS THE ANSWER: so a text with a fault is refused, and of two faults the earlier is named
+-- what is no text is refused at its end, if not before
+breaks-off : (a : List ℕ) → (G.IsText a → ⊥) → Before (length a) 11 (readOf a)
+breaks-off a h =
+    subst (λ (t : List ℕ). Before (length a) 11 (readOf t)) (append-nil a)
+    (early-at a [] 11 (ap (faultOf (counterOf (run begin a))) (last-refuse (run begin a .mode) (λ e. h (run begin a .done, lastLine (run begin a), sound (okay a) e)))) refl)
+
+weaker : (q : ℕ) (a : Answer) → Before q 11 a → Before q 12 a
+weaker q (Counts r c) b = b
+weaker q (Refused n p) (inl h) = inl h
+weaker q (Refused n p) (inr h) = inr (h .0, omega (arith, h .1))
+
+-- THE EARLIEST FAULT IS THE ANSWER: so a text with a fault is refused, and of two faults the earlier is named, at one place the lower
 pub first : {t : List ℕ} {q m : ℕ} → Fault t q m → Before q m (readOf t)
 first (barred a b u g h) = early-at a (b ∷ u) 11 (ap (faultOf (counterOf (run begin a))) act) refl
   where
     act : actOf (run begin a .mode) (kindOf b) ≡ Refuse
     act = ⊎-elim (λ e. e) (λ e. absurd (h (begins (okay (a ++ (b ∷ []))) (λ z. e (dead-byte a b z))))) (refuse-or-not (actOf (run begin a .mode) (kindOf b)))
-first (unfinished a g h) =
-    subst (λ (t : List ℕ). Before (length a) 11 (readOf t)) (append-nil a)
-    (early-at a [] 11 (ap (faultOf (counterOf (run begin a))) (last-refuse (run begin a .mode) (λ e. h (run begin a .done, lastLine (run begin a), sound (okay a) e)))) refl)
+first (unfinished a g h) = breaks-off a h
 first (uneven a u ls l t r) = early-at a (13 ∷ u) 12 (ap (faultOf (counterOf (run begin a))) (ends-acts (the-ends t) .0) ∙ ragged-here t r) refl
+first (uneven-open a ls l t r) = weaker (length a) (readOf a) (breaks-off a (breaks-off-only a (inl (ls, l, t))))
 first (uneven-end a ls l t r) =
     subst (λ (t : List ℕ). Before (length a) 12 (readOf t)) (append-nil a)
     (early-at a [] 12 (ap (faultOf (counterOf (run begin a))) (ends-acts (the-ends t) .2) ∙ ragged-here t r) refl)

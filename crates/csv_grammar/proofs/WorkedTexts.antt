@@ -1,12 +1,14 @@
 -- Texts and their answers in numerals: by computation of the automaton.
 use mathlib.Core.Path.{_≡_, refl, subst}
-use mathlib.Core.List.{List, [], _∷_}
+use mathlib.Core.Logic.{inl, inr}
+use mathlib.Core.List.{List, [], _∷_, _++_, cons-ne-nil}
+use native.Mathlib.Omega.{arith}
 use Rattle.csv_grammar.specs.Grammar as G
-use Rattle.csv_grammar.specs.Faults.{Reads}
-use Rattle.csv_grammar.specs.WorkedTexts.{Row, acceptedRows, refusedRows, AllRead, dividedText, itsLines, itsLast, WorkedTexts}
+use Rattle.csv_grammar.specs.Faults.{NotCsvAt, RaggedAt, Reads}
+use Rattle.csv_grammar.specs.WorkedTexts.{Row, acceptedRows, refusedRows, AllRead, dividedText, itsLines, itsLast, brokenRow, WorkedTexts}
 use Rattle.csv_grammar.proofs.Automaton.{kindOf, counted, endOf, readFrom, readOf}
 use Rattle.csv_grammar.proofs.Division.{Ends}
-use Rattle.csv_grammar.proofs.Sound.{okay, sound}
+use Rattle.csv_grammar.proofs.Sound.{okay, sound, breaks-off-only}
 use Rattle.csv_grammar.proofs.GrammarLaws.{reads}
 
 -- what the automaton answers is what a row says
@@ -24,11 +26,22 @@ accepted-rows = (refl, (refl, (refl, (refl, (refl, (refl, (refl, (refl, (refl, t
 
 refused-rows : AllComputed refusedRows
 unfolding readOf readFrom kindOf counted endOf
-refused-rows = (refl, (refl, (refl, (refl, (refl, (refl, (refl, (refl, (refl, (refl, (refl, (refl, (refl, (refl, (refl, (refl, tt))))))))))))))))
+refused-rows = (refl, (refl, (refl, (refl, (refl, (refl, (refl, (refl, (refl, (refl, (refl, (refl, (refl, (refl, (refl, (refl, (refl, (refl, tt))))))))))))))))))
 
 division : G.Text dividedText itsLines itsLast
 unfolding kindOf
 division = sound (okay dividedText) Ends.fresh
 
+-- the text of two rows that a quote makes of it
+closed : G.Text (brokenRow ++ (34 ∷ [])) (((97 ∷ []) ∷ []) ∷ []) ((97 ∷ []) ∷ (34 ∷ 34 ∷ []) ∷ [])
+unfolding kindOf
+closed = sound (okay (brokenRow ++ (34 ∷ []))) Ends.closed
+
+shared-place : NotCsvAt brokenRow 6 × RaggedAt brokenRow 6
+shared-place = (
+  inr (refl, (34 ∷ [], (_, _, closed)), breaks-off-only brokenRow (inl (_, _, closed))),
+  (_, _, inr (refl, inr closed), (refl, λ e. cons-ne-nil _ _ e, λ e. omega arith)),
+)
+
 pub worked-texts : WorkedTexts
-worked-texts = record { accepted-rows = all-read acceptedRows accepted-rows; refused-rows = all-read refusedRows refused-rows; division = division; places = refl; equal-places = refl }
+worked-texts = record { shared-place = shared-place; accepted-rows = all-read acceptedRows accepted-rows; refused-rows = all-read refusedRows refused-rows; division = division; places = refl; by-row-and-column = (refl, refl); equal-places = refl }

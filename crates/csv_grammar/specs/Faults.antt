@@ -3,7 +3,7 @@ use Prim.Native.Nat.{ℕ, suc, _<_}
 use mathlib.Core.Path.{_≡_}
 use mathlib.Core.Logic.{_⊎_}
 use mathlib.Core.Bool.{false}
-use mathlib.Core.List.{List, [], _∷_}
+use mathlib.Core.List.{List, [], _∷_, _++_}
 use lib.ListN.{length, take, getD}
 use Rattle.refusals.specs.Numbers.{accepted, refusedNotCsv, refusedRaggedRow, refusedTooManyFields}
 use Rattle.refusals.specs.Lines as lines
@@ -22,11 +22,15 @@ NotCsvAt t p = ((p < length t) × Begins (take p t) × (Begins (take (suc p) t) 
 abbrev pub Ragged : (lines : List (List (List ℕ))) (line : List (List ℕ)) → Type 0
 Ragged ls l = (isBlank l ≡ false) × (rowsOf ls ≡ [] → ⊥) × (length l ≡ columnsOf (rowsOf ls) → ⊥)
 
+-- after these lines this line ends there: at a CR, or at the text's end, where its last field may lack its closing quote
+abbrev pub LineEndsAt : (text : List ℕ) (place : ℕ) (lines : List (List (List ℕ))) (line : List (List ℕ)) → Type 0
+LineEndsAt t p ls l =
+    ((p < length t) × (getD t p 0 ≡ 13) × Text (take p t) ls l) ⊎ ((p ≡ length t) × (Text t ls l ⊎ Text (t ++ (34 ∷ [])) ls l))
+
 -- "12 is a row whose field count differs from the first row's, placed at its line end (the CR after its last field, whether or not an LF follows,
 -- or the end of the text)"
 abbrev pub RaggedAt : (text : List ℕ) (place : ℕ) → Type 0
-RaggedAt t p =
-    (((p < length t) × (getD t p 0 ≡ 13)) ⊎ (p ≡ length t)) × (ls : List (List (List ℕ))) × (l : List (List ℕ)) × Text (take p t) ls l × Ragged ls l
+RaggedAt t p = (ls : List (List (List ℕ))) × (l : List (List ℕ)) × LineEndsAt t p ls l × Ragged ls l
 
 -- "13 is more than 32 fields, placed at the row's 32nd separating comma"
 abbrev pub TooManyAt : (text : List ℕ) (place : ℕ) → Type 0

@@ -1,21 +1,35 @@
 -- The laws of the grammar. proofs/GrammarLaws.antt has `grammar-laws : GrammarLaws`.
-use Prim.Native.Nat.{ℕ}
+use Prim.Native.Nat.{ℕ, _<_, _≤_}
 use mathlib.Core.Path.{_≡_}
 use mathlib.Core.Logic.{_⊎_}
 use mathlib.Core.Bool.{true}
 use mathlib.Core.List.{List, [], _∷_, _++_}
+use lib.ListN.{length}
 use Rattle.refusals.specs.Lines.{numbersOf}
 use Rattle.csv_grammar.specs.declared.Answer.{Answer}
+use Rattle.csv_grammar.specs.declared.Span.{Span}
 use Rattle.csv_grammar.specs.Grammar.{Field, Line, Text, IsText, Begins}
-use Rattle.csv_grammar.specs.Table.{isBlank, tableOf, entry, Even}
+use Rattle.csv_grammar.specs.Table.{isBlank, tableOf, withBytes, entry, Even}
 use Rattle.csv_grammar.specs.Places.{spansOf, spanAt, StandsAt, RowsStand}
 use Rattle.csv_grammar.specs.Faults.{RaggedAt, TooManyAt, faultLines, numberOf, Reads}
 
 pub record GrammarLaws : Type 0 where
   -- "the division into fields is the only one"
   pub one-division : (t : List ℕ) (ls ms : List (List (List ℕ))) (l k : List (List ℕ)) → Text t ls l → Text t ms k → (ls ≡ ms) × (l ≡ k)
+  -- every byte that is no control byte, quote or comma is text, outside quotes and inside: "Bytes 128 to 255 count as ordinary text."
+  pub ordinary : (b : ℕ) → 32 ≤ b → (b ≡ 34 → ⊥) → (b ≡ 44 → ⊥) → (b ≡ 127 → ⊥) → Field (b ∷ []) × Field (34 ∷ b ∷ 34 ∷ [])
+  -- of the bytes below 32 only CR and LF stand in a text, and 127 does not, inside quotes either
+  pub no-control : (s u : List ℕ) (b : ℕ) → IsText (s ++ (b ∷ u)) → (b < 32 → (b ≡ 13) ⊎ (b ≡ 10)) × (b ≡ 127 → ⊥)
   -- "a line of no bytes"
   pub blank-line : (s : List ℕ) (fs : List (List ℕ)) → Line s fs → (isBlank fs ≡ true → s ≡ []) × (s ≡ [] → isBlank fs ≡ true)
+  -- the rows are the lines but for those
+  pub rows-are-lines : (ls : List (List (List ℕ))) (l : List (List ℕ)) → tableOf ls l ≡ withBytes (ls ++ (l ∷ []))
+  -- "by row and column from 0": as many rows before it, and as many fields before it in its row
+  pub entry-from-0 :
+      (above below : List (List (List ℕ))) (left right : List (List ℕ)) (f : List ℕ)
+      → entry (above ++ ((left ++ (f ∷ right)) ∷ below)) (length above) (length left) ≡ f
+  pub span-from-0 :
+      (above below : List (List Span)) (left right : List Span) (s : Span) → spanAt (above ++ ((left ++ (s ∷ right)) ∷ below)) (length above) (length left) ≡ s
   -- what begins a text and is none "ends inside quotes or on a lone CR": a quote, or an LF, makes it one
   pub breaks-off : (t : List ℕ) → Begins t → IsText t ⊎ (IsText (t ++ (34 ∷ [])) ⊎ IsText (t ++ (10 ∷ [])))
   pub breaks-off-only : (t : List ℕ) → IsText (t ++ (34 ∷ [])) ⊎ IsText (t ++ (10 ∷ [])) → IsText t → ⊥
@@ -35,7 +49,7 @@ pub record GrammarLaws : Type 0 where
   -- what stands in a table is a field, and stands at its place
   pub entry-field :
       (row column : ℕ) (t : List ℕ) (ls : List (List (List ℕ))) (l : List (List ℕ)) → Text t ls l → Field (entry (tableOf ls l) row column)
-  -- row by row, field by field: as many places as fields
+  -- row by row, field by field: fields of the grammar, and as many places
   pub table-stands : (t : List ℕ) (ls : List (List (List ℕ))) (l : List (List ℕ)) → Text t ls l → RowsStand t (spansOf ls l) (tableOf ls l)
   pub entry-stands :
       (t : List ℕ) (ls : List (List (List ℕ))) (l : List (List ℕ)) → Text t ls l → (row column : ℕ)

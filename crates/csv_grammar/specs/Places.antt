@@ -5,6 +5,7 @@ use mathlib.Core.Bool.{cond}
 use mathlib.Core.List.{List, [], _∷_, _++_}
 use lib.ListN.{length, take, drop, getD}
 use Rattle.csv_grammar.specs.declared.Span.{Span}
+use Rattle.csv_grammar.specs.Grammar.{Field}
 use Rattle.csv_grammar.specs.Table.{isBlank, skips, addLine}
 
 -- the fields of a line that starts at place p: each is followed by one byte, the comma
@@ -49,12 +50,12 @@ pub record StandsAt (t : List ℕ) (s : Span) (f : List ℕ) : Type 0 where
   pub starts : length before ≡ s .start
   pub ends : s .end ≡ s .start + length f
 
--- row by row, the fields of a table stand at these places, as many as there are
+-- row by row, what a table holds are fields of the grammar and stand at these places, as many as there are
 abbrev pub RowStands : List ℕ → List Span → List (List ℕ) → Type 0
 RowStands t [] [] = Unit
 RowStands t [] (f ∷ fs) = ⊥
 RowStands t (s ∷ ss) [] = ⊥
-RowStands t (s ∷ ss) (f ∷ fs) = StandsAt t s f × RowStands t ss fs
+RowStands t (s ∷ ss) (f ∷ fs) = Field f × StandsAt t s f × RowStands t ss fs
 
 abbrev pub RowsStand : List ℕ → List (List Span) → List (List (List ℕ)) → Type 0
 RowsStand t [] [] = Unit

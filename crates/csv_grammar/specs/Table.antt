@@ -37,9 +37,14 @@ abbrev pub columnsOf : (rows : List (List (List ℕ))) → ℕ
 columnsOf [] = 0
 columnsOf (row ∷ rows) = length row
 
--- "by row and column from 0 (an empty part where there is none ..)"
+-- "by row and column from 0 (an empty part where there is none or the text is refused)": where there is none
 abbrev pub entry : (rows : List (List (List ℕ))) (row column : ℕ) → List ℕ
 entry rows row column = getD (getD rows row []) column []
+
+-- these lines without those of no bytes
+abbrev pub withBytes : (lines : List (List (List ℕ))) → List (List (List ℕ))
+withBytes [] = []
+withBytes (line ∷ lines) = cond (isBlank line) (withBytes lines) (line ∷ withBytes lines)
 
 -- each of these rows has n fields
 abbrev pub HaveFields : (n : ℕ) (rows : List (List (List ℕ))) → Type 0

@@ -6,8 +6,9 @@ use Rattle.csv_grammar.specs.declared.Answer.{Answer}
 use Rattle.csv_grammar.specs.declared.Answer.the-variants.{Counts, Refused}
 use Rattle.csv_grammar.specs.declared.Span.{Span}
 use Rattle.csv_grammar.specs.Grammar.{Text}
-use Rattle.csv_grammar.specs.Faults.{Reads}
-use Rattle.csv_grammar.specs.Places.{spansOf}
+use Rattle.csv_grammar.specs.Table.{tableOf, entry}
+use Rattle.csv_grammar.specs.Faults.{NotCsvAt, RaggedAt, Reads}
+use Rattle.csv_grammar.specs.Places.{spansOf, spanAt}
 
 -- n commas, which make a row of n + 1 fields of no bytes
 abbrev pub commas : ℕ → List ℕ
@@ -37,7 +38,8 @@ refusedRows =
     ∷ row (97 ∷ 13 ∷ []) (Refused 11 2) ∷ row (34 ∷ 97 ∷ []) (Refused 11 2) ∷ row (97 ∷ 13 ∷ 10 ∷ 97 ∷ 44 ∷ 34 ∷ []) (Refused 11 6)
     ∷ row (97 ∷ 13 ∷ 10 ∷ 97 ∷ 44 ∷ 13 ∷ 98 ∷ []) (Refused 12 5) ∷ row (97 ∷ 44 ∷ 98 ∷ 13 ∷ 10 ∷ 97 ∷ 13 ∷ 10 ∷ 10 ∷ []) (Refused 12 6)
     ∷ row (97 ∷ 44 ∷ 98 ∷ 13 ∷ 10 ∷ 97 ∷ []) (Refused 12 6) ∷ row (commas 32) (Refused 13 31) ∷ row (commas 32 ++ (10 ∷ [])) (Refused 13 31)
-    ∷ row (commas 31 ++ (10 ∷ 44 ∷ [])) (Refused 11 31) ∷ []
+    ∷ row (commas 31 ++ (10 ∷ 44 ∷ [])) (Refused 11 31) ∷ row (97 ∷ 13 ∷ 10 ∷ commas 32) (Refused 13 34)
+    ∷ row (97 ∷ 13 ∷ 10 ∷ commas 31) (Refused 12 34) ∷ []
 
 abbrev pub AllRead : List Row → Type 0
 AllRead [] = Unit
@@ -56,13 +58,20 @@ itsLines = ((97 ∷ []) ∷ (34 ∷ 98 ∷ 34 ∷ 34 ∷ 98 ∷ 34 ∷ []) ∷ [
 abbrev pub itsLast : List (List ℕ)
 itsLast = (98 ∷ []) ∷ [] ∷ []
 
+-- a text that ends inside quotes, in a row of two fields where the first has one
+abbrev pub brokenRow : List ℕ
+brokenRow = 97 ∷ 13 ∷ 10 ∷ 97 ∷ 44 ∷ 34 ∷ []
+
 -- lines with equal fields: of no bytes, two letters a, of no bytes, the letter in quotes and a field of no bytes
 abbrev pub equalLines : List (List (List ℕ))
 equalLines = ([] ∷ []) ∷ ((97 ∷ []) ∷ (97 ∷ []) ∷ []) ∷ ([] ∷ []) ∷ ((34 ∷ 97 ∷ 34 ∷ []) ∷ [] ∷ []) ∷ []
 
 pub record WorkedTexts : Type 0 where
+  -- 11 and 12 at one place; it is read as 11 at place 6, above
+  pub shared-place : NotCsvAt brokenRow 6 × RaggedAt brokenRow 6
   pub accepted-rows : AllRead acceptedRows
   pub refused-rows : AllRead refusedRows
   pub division : Text dividedText itsLines itsLast
   pub places : spansOf itsLines itsLast ≡ (span 0 1 ∷ span 2 8 ∷ []) ∷ (span 12 13 ∷ span 14 14 ∷ []) ∷ []
+  pub by-row-and-column : (entry (tableOf itsLines itsLast) 1 0 ≡ 98 ∷ []) × (spanAt (spansOf itsLines itsLast) 0 1 ≡ span 2 8)
   pub equal-places : spansOf equalLines ([] ∷ []) ≡ (span 2 3 ∷ span 4 5 ∷ []) ∷ (span 9 12 ∷ span 13 13 ∷ []) ∷ []

@@ -34,15 +34,23 @@ readAt text m c i = readFrom (counter m c) i (drop i text)
 
 -- ---- the bytes of a field
 
-head-drop : (xs : List ℕ) (n : ℕ) {b : ℕ} {r : List ℕ} → drop n xs ≡ b ∷ r → drop (suc n) xs ≡ r
-head-drop xs n {b} {r} e = by (ltb n (length xs)) refl
-  where
-    by : (t : Bool) → ltb n (length xs) ≡ t → drop (suc n) xs ≡ r
-    by true t = let j = drop-cons xs n 0 (ltb-true n (length xs) t) in cc
-    by false t =
-        let j : drop n xs ≡ [] = drop-of-length-le xs (ltb-false n (length xs) t) in
-        let z : _≡_ {A = ℕ} 0 1 = cc in
-        absurd (omega arith)
+-- what stands at a place of a list, and after it
+module _ (xs : List ℕ) (n : ℕ) {b : ℕ} {r : List ℕ} (e : drop n xs ≡ b ∷ r) where
+  place-within : n < length xs
+  place-within = by (ltb n (length xs)) refl
+    where
+      by : (t : Bool) → ltb n (length xs) ≡ t → n < length xs
+      by true t = ltb-true n (length xs) t
+      by false t =
+          let j : drop n xs ≡ [] = drop-of-length-le xs (ltb-false n (length xs) t) in
+          let z : _≡_ {A = ℕ} 0 1 = cc in
+          absurd (omega arith)
+
+  head-drop : drop (suc n) xs ≡ r
+  head-drop = let j = drop-cons xs n 0 place-within in cc
+
+  head-there : getD xs n 0 ≡ b
+  head-there = let j = drop-cons xs n 0 place-within in cc
 
 module _ (text : List ℕ) (c : Tally) where
   plain-reads : (t : List ℕ) (i : ℕ) → drop i text ≡ t → readFrom (counter Bare c) i t ≡ readAt text Bare c (plainEnd i t)
@@ -99,16 +107,6 @@ module _ (text : List ℕ) (c : Tally) where
       (in-quotes b i t e (r .0) (r .1) (kindOf b) (told b), after-quote b i t e (r .0) (eqb b 34) refl)
 
 -- ---- where a field's bytes stop
-
-head-there : (xs : List ℕ) (n : ℕ) {b : ℕ} {r : List ℕ} → drop n xs ≡ b ∷ r → getD xs n 0 ≡ b
-head-there xs n {b} {r} e = by (ltb n (length xs)) refl
-  where
-    by : (t : Bool) → ltb n (length xs) ≡ t → getD xs n 0 ≡ b
-    by true t = let j = drop-cons xs n 0 (ltb-true n (length xs) t) in cc
-    by false t =
-        let j : drop n xs ≡ [] = drop-of-length-le xs (ltb-false n (length xs) t) in
-        let z : _≡_ {A = ℕ} 0 1 = cc in
-        absurd (omega arith)
 
 none-there : (xs : List ℕ) (n : ℕ) → drop n xs ≡ [] → length xs ≤ n
 none-there xs n e = let d = length-drop n xs in let z : length (drop n xs) ≡ 0 = ap length e in omega arith

@@ -11,9 +11,9 @@ use Rattle.csv_grammar.specs.Grammar as G
 use lib.ListN.{length, getD}
 use Rattle.csv_grammar.specs.Table.{tableOf, columnsOf, entry, HaveFields}
 use Rattle.csv_grammar.specs.Faults.{numberOf, Reads}
-use Rattle.csv_grammar.specs.Places.{spansOf, spanAt, bytesAt, StandsAt}
+use Rattle.csv_grammar.specs.Places.{spansOf, noSpan, spanAt, bytesAt, StandsAt, RowStands, RowsStand}
 use Rattle.csv_grammar.proofs.Automaton.{readOf}
-use Rattle.csv_grammar.proofs.Places.{entry-stands, stands-bytes}
+use Rattle.csv_grammar.proofs.Places.{table-stands, entry-stands, stands-bytes}
 use Rattle.csv_grammar.proofs.Division.{unique}
 use Rattle.csv_grammar.proofs.GrammarLaws.{reads, one-answer, entry-field, empty-field, grammar-laws}
 use Rattle.csv_walking.specs.Parts.{PartBy, Part, FieldAt}
@@ -38,38 +38,55 @@ part-stands {t} a h e {ls} {l} x {row} {column} p = subst⁻¹ (λ (y : Span). S
 field-entry : {t : List ℕ} (a : Answer) → Reads t a → numberOf a ≡ 0 → {ls : List (List (List ℕ))} {l : List (List ℕ)} → G.Text t ls l → {row column : ℕ} {f : List ℕ} → FieldAt t row column f → f ≡ entry (tableOf ls l) row column
 field-entry a h e x f = f .2 ∙ stands-bytes (part-stands a h e x (f .1))
 
-refused-empty : {t : List ℕ} (a : Answer) → Reads t a → (numberOf a ≡ 0 → ⊥) → {row column : ℕ} {f : List ℕ} → FieldAt t row column f → f ≡ []
-refused-empty (Counts r c) h e f = absurd (e refl)
-refused-empty {t} (Refused n q) h e f = f .2 ∙ ap (λ (s : Span). bytesAt s t) (by-answer (f .1) (Refused n q) h)
+none-refused : {t : List ℕ} (a : Answer) → Reads t a → (numberOf a ≡ 0 → ⊥) → {row column : ℕ} {s : Span} → Part t row column s → s ≡ noSpan
+none-refused (Counts r c) h e p = absurd (e refl)
+none-refused (Refused n q) h e p = by-answer p (Refused n q) h
 
 one-part : {t : List ℕ} {row column : ℕ} {s r : Span} (a : Answer) → Reads t a → Part t row column s → Part t row column r → s ≡ r
 one-part (Counts m n) h p q = part-place (Counts m n) h refl (h .3) p ∙ sym (part-place (Counts m n) h refl (h .3) q)
 one-part (Refused m n) h p q = by-answer p (Refused m n) h ∙ sym (by-answer q (Refused m n) h)
 
--- nothing stands beyond a list, and beyond the rows and columns of a table
+-- nothing stands beyond a list, and no place beyond the rows and columns of a table
 beyond : {A : Type 0} (xs : List A) (k : ℕ) (d : A) → length xs ≤ k → getD xs k d ≡ d
 beyond [] k d h = refl
 beyond (x ∷ xs) zero d h = absurd (omega arith)
 beyond (x ∷ xs) (suc k) d h = beyond xs k d (omega arith)
 
-beyond-columns : (n : ℕ) (rows : List (List (List ℕ))) → HaveFields n rows → (row column : ℕ) → n ≤ column → entry rows row column ≡ []
-beyond-columns n [] w row column h = refl
-beyond-columns n (r ∷ rows) w zero column h = beyond r column [] (omega (arith, w .0))
-beyond-columns n (r ∷ rows) w (suc row) column h = beyond-columns n rows (w .1) row column h
+row-length : (t : List ℕ) (ss : List Span) (fs : List (List ℕ)) → RowStands t ss fs → length ss ≡ length fs
+row-length t [] [] w = refl
+row-length t [] (f ∷ fs) w = absurd w
+row-length t (s ∷ ss) [] w = absurd w
+row-length t (s ∷ ss) (f ∷ fs) w = ap suc (row-length t ss fs (w .2))
 
-beyond-rows : (rows : List (List (List ℕ))) (row column : ℕ) → length rows ≤ row → entry rows row column ≡ []
-beyond-rows rows row column h = ap (λ (r : List (List ℕ)). getD r column []) (beyond rows row [] h)
+beyond-rows : (t : List ℕ) (ss : List (List Span)) (rows : List (List (List ℕ))) → RowsStand t ss rows → (row column : ℕ) → length rows ≤ row → spanAt ss row column ≡ noSpan
+beyond-rows t [] [] w row column h = refl
+beyond-rows t [] (r ∷ rows) w row column h = absurd w
+beyond-rows t (s ∷ ss) [] w row column h = absurd w
+beyond-rows t (s ∷ ss) (r ∷ rows) w zero column h = absurd (omega arith)
+beyond-rows t (s ∷ ss) (r ∷ rows) w (suc row) column h = beyond-rows t ss rows (w .1) row column (omega arith)
 
-none-beyond : {t : List ℕ} {rows columns : ℕ} → Reads t (Counts rows columns) → (row column : ℕ) → (rows ≤ row) ⊎ (columns ≤ column) → {f : List ℕ} → FieldAt t row column f → f ≡ []
-none-beyond {t} {rows} {columns} h row column (inl l) f =
-    field-entry (Counts rows columns) h refl (h .3) f ∙ beyond-rows (tableOf (h .1) (h .2)) row column (omega (arith, h .4))
-none-beyond {t} {rows} {columns} h row column (inr l) f =
-    let w = grammar-laws .even-rows t (Counts rows columns) h refl (h .1) (h .2) (h .3) in
-    field-entry (Counts rows columns) h refl (h .3) f ∙ beyond-columns (columnsOf (tableOf (h .1) (h .2))) (tableOf (h .1) (h .2)) (w .0) row column (omega (arith, h .5))
+beyond-columns : (n : ℕ) (t : List ℕ) (ss : List (List Span)) (rows : List (List (List ℕ))) → RowsStand t ss rows → HaveFields n rows → (row column : ℕ) → n ≤ column → spanAt ss row column ≡ noSpan
+beyond-columns n t [] [] w v row column h = refl
+beyond-columns n t [] (r ∷ rows) w v row column h = absurd w
+beyond-columns n t (s ∷ ss) [] w v row column h = absurd w
+beyond-columns n t (s ∷ ss) (r ∷ rows) w v zero column h = beyond s column noSpan (omega (arith, row-length t s r (w .0), v .0))
+beyond-columns n t (s ∷ ss) (r ∷ rows) w v (suc row) column h = beyond-columns n t ss rows (w .1) (v .1) row column h
+
+none-beyond : {t : List ℕ} {rows columns : ℕ} → Reads t (Counts rows columns) → (row column : ℕ) → (rows ≤ row) ⊎ (columns ≤ column) → {s : Span} → Part t row column s → s ≡ noSpan
+none-beyond {t} {rows} {columns} h row column l p = part-place (Counts rows columns) h refl (h .3) p ∙ by l
+  where
+    by : (rows ≤ row) ⊎ (columns ≤ column) → spanAt (spansOf (h .1) (h .2)) row column ≡ noSpan
+    by (inl l) = beyond-rows t (spansOf (h .1) (h .2)) (tableOf (h .1) (h .2)) (table-stands (h .3)) row column (omega (arith, h .4))
+    by (inr l) =
+        let w = grammar-laws .even-rows t (Counts rows columns) h refl (h .1) (h .2) (h .3) in
+        beyond-columns (columnsOf (tableOf (h .1) (h .2))) t (spansOf (h .1) (h .2)) (tableOf (h .1) (h .2)) (table-stands (h .3)) (w .0) row column (omega (arith, h .5))
+
+none-empty : {t : List ℕ} {row column : ℕ} {f : List ℕ} (a : Answer) → Reads t a → FieldAt t row column f → Part t row column noSpan → f ≡ []
+none-empty {t} a h f p = f .2 ∙ ap (λ (s : Span). bytesAt s t) (one-part a h (f .1) p)
 
 part-field : {t : List ℕ} {row column : ℕ} {f : List ℕ} (a : Answer) → Reads t a → FieldAt t row column f → G.Field f
 part-field {row = row} {column = column} (Counts m n) h f = subst⁻¹ G.Field (field-entry (Counts m n) h refl (h .3) f) (entry-field (h .3) row column)
-part-field (Refused m n) h f = subst⁻¹ G.Field (refused-empty (Refused m n) h (h .2) f) empty-field
+part-field {t} (Refused m n) h f = subst⁻¹ G.Field (f .2 ∙ ap (λ (s : Span). bytesAt s t) (none-refused (Refused m n) h (h .2) (f .1))) empty-field
 
 pub walking-laws : WalkingLaws
 walking-laws =
@@ -80,8 +97,9 @@ walking-laws =
       one-part = λ t row column s r p q. one-part (readOf t) (reads t) p q;
       part-stands = λ t a h e ls l x row column s p. part-stands a h e x p;
       field-entry = λ t row column f p a h e ls l x. field-entry a h e x p;
-      refused-empty = λ t a h e row column f p. refused-empty a h e p;
-      none-beyond = λ t rows columns h row column l f p. none-beyond h row column l p;
+      none-beyond = λ t rows columns h row column l s p. none-beyond h row column l p;
+      none-refused = λ t a h e row column s p. none-refused a h e p;
+      none-empty = λ t row column f p q. none-empty (readOf t) (reads t) p q;
       handed-over = λ origin t row column found f p. (p .0, p .1, p .2);
       part-field = λ t row column f p. part-field (readOf t) (reads t) p;
     }

@@ -24,18 +24,20 @@ pub record WalkingLaws : Type 0 where
   pub visits-end : (t : List ℕ) (w v : Cursor) (s : Span) → nextOf t w ≡ Visited s v → ahead t v < ahead t w
   -- a row and column have one part
   pub one-part : (t : List ℕ) (row column : ℕ) (s r : Span) → Part t row column s → Part t row column r → s ≡ r
-  -- of an accepted text it is the field of the table, at its place; of a refused one it is empty
+  -- of an accepted text it is the field of the table, at its place
   pub part-stands :
       (t : List ℕ) (a : Answer) → Reads t a → numberOf a ≡ 0 → (ls : List (List (List ℕ))) (l : List (List ℕ)) → Text t ls l
       → (row column : ℕ) (s : Span) → Part t row column s → StandsAt t s (entry (tableOf ls l) row column)
   pub field-entry :
       (t : List ℕ) (row column : ℕ) (f : List ℕ) → FieldAt t row column f → (a : Answer) → Reads t a → numberOf a ≡ 0
       → (ls : List (List (List ℕ))) (l : List (List ℕ)) → Text t ls l → f ≡ entry (tableOf ls l) row column
-  pub refused-empty : (t : List ℕ) (a : Answer) → Reads t a → (numberOf a ≡ 0 → ⊥) → (row column : ℕ) (f : List ℕ) → FieldAt t row column f → f ≡ []
-  -- by row and column from 0, none beyond the counts
+  -- "an empty part where there is none or the text is refused": from 0 to 0, beyond the counts and of every refused text; it has no bytes
   pub none-beyond :
       (t : List ℕ) (rows columns : ℕ) → Reads t (Counts rows columns) → (row column : ℕ) → (rows ≤ row) ⊎ (columns ≤ column)
-      → (f : List ℕ) → FieldAt t row column f → f ≡ []
+      → (s : Span) → Part t row column s → s ≡ record { start = 0; end = 0 }
+  pub none-refused :
+      (t : List ℕ) (a : Answer) → Reads t a → (numberOf a ≡ 0 → ⊥) → (row column : ℕ) (s : Span) → Part t row column s → s ≡ record { start = 0; end = 0 }
+  pub none-empty : (t : List ℕ) (row column : ℕ) (f : List ℕ) → FieldAt t row column f → Part t row column (record { start = 0; end = 0 }) → f ≡ []
   -- what `field` hands over are these bytes, and every one is a field of the grammar
   pub handed-over :
       (origin : ℕ × ℕ) (t : List ℕ) (row column : ℕ) (found : ℕ × ℕ) (f : List ℕ) → HandsOver origin t row column found f → FieldAt t row column f

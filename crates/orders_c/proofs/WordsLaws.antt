@@ -11,4 +11,15 @@ kept at true = refl
 kept at false = refl
 
 pub words-laws : WordsLaws
-words-laws = record { starts = refl; goes-on = λ w. kept (w .at) (w .inside) }
+words-laws =
+    record {
+      starts = refl;
+      goes-on = λ w. kept (w .at) (w .inside);
+      counts-words = refl;
+      refused-words = refl;
+      part-words = refl;
+      bytes-words = refl;
+      refused-content-words = refl;
+      field-words = λ held. (refl, refl, refl);
+      end-words = λ held. (refl, refl, refl);
+    }

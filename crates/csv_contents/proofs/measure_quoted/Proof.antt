@@ -39,8 +39,8 @@ returns-2 : tie.Need-returns-2 Inv-loop μ-loop
 returns-2 c =
     let r = c .before .before .before in
     let l = r .before .before in
-    let g = l .before .before .before .before in
-    breaks-off (g .args .part .now) (g .pre .0) (g .pre .1) (l .loop .i) (r .inside-run .result) (l .loop .inv .0) (r .inside-run .ensures) (c .no-field2 .ensures) (c .before .if2 .taken)
+    let g = l .before .before .before .before .pre in
+    breaks-off _ (g .0) (g .1) _ _ (l .loop .inv .0) (r .inside-run .ensures) (c .no-field2 .ensures) (c .before .if2 .taken)
 
 add-j : tie.Need-add-j Inv-loop μ-loop
 add-j c = let w = c .before .before .inside-run .ensures .within in omega arith
@@ -49,8 +49,8 @@ returns-3 : tie.Need-returns-3 Inv-loop μ-loop
 returns-3 c =
     let r = c .before .before .before in
     let l = r .before .before in
-    let g = l .before .before .before .before in
-    closes (g .args .part .now) (g .pre .0) (g .pre .1) (l .loop .i) (r .inside-run .result) (l .loop .inv .0) (r .inside-run .ensures) (c .before .if2 .left) (l .loop .k) (l .loop .inv .1) (c .if3 .taken)
+    let g = l .before .before .before .before .pre in
+    closes _ (g .0) (g .1) _ _ (l .loop .inv .0) (r .inside-run .ensures) (c .before .if2 .left) _ (l .loop .inv .1) (c .if3 .taken)
 
 shared-slice-read-if4 : tie.Need-shared-slice-read-if4 Inv-loop μ-loop
 shared-slice-read-if4 c = c .before .if3 .left
@@ -60,8 +60,8 @@ returns-4 c =
     let f = c .before .before .before in
     let r = f .before .before .before in
     let l = r .before .before in
-    let g = l .before .before .before .before in
-    text-after (g .args .part .now) (g .pre .0) (g .pre .1) (l .loop .i) (r .inside-run .result) (l .loop .inv .0) (r .inside-run .ensures) (f .before .if2 .left) (f .if3 .left) (c .no-field3 .ensures) (c .before .if4 .taken)
+    let g = l .before .before .before .before .pre in
+    text-after _ (g .0) (g .1) _ _ (l .loop .inv .0) (r .inside-run .ensures) (f .before .if2 .left) (f .if3 .left) (c .no-field3 .ensures) (c .before .if4 .taken)
 
 -- the counts fit
 add-k-2 : tie.Need-add-k-2 Inv-loop μ-loop
@@ -88,17 +88,17 @@ loop-again c =
     let w = r .inside-run .ensures in
     let l = r .before .before in
     let v = l .loop .inv in
-    let g = l .before .before .before .before in (
-      goes-on (g .args .part .now) (g .pre .0) (g .pre .1) (l .loop .i) (r .inside-run .result) (v .0) w (f .before .if2 .left) (f .if3 .left) (c .if4 .left),
-      counts-on (g .args .part .now) (g .pre .0) (g .pre .1) (l .loop .i) (r .inside-run .result) (v .0) w (f .before .if2 .left) (f .if3 .left) (l .loop .k) (v .1),
+    let g = l .before .before .before .before .pre in (
+      goes-on _ (g .0) (g .1) _ _ (v .0) w (f .before .if2 .left) (f .if3 .left) (c .if4 .left),
+      counts-on _ (g .0) (g .1) _ _ (v .0) w (f .before .if2 .left) (f .if3 .left) _ (v .1),
       omega (arith, w .after, v .2),
     )
 
 returns-5 : tie.Need-returns-5 Inv-loop μ-loop
 returns-5 c =
     let l = c .before .before in
-    let g = l .before .before .before .before in
-    never-closed (g .args .part .now) (g .pre .0) (g .pre .1) (l .loop .i) (c .no-field4 .ensures) (l .loop .inv .0) (c .before .loop-test .left)
+    let g = l .before .before .before .before .pre in
+    never-closed _ (g .0) (g .1) _ (c .no-field4 .ensures) (l .loop .inv .0) (c .before .loop-test .left)
 
 pub measure-quoted-spec : {M : Type 1} → statement M
 measure-quoted-spec =

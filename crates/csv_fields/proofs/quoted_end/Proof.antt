@@ -22,71 +22,52 @@ loop-holds c = refl
 inside-end-requires : tie.Need-inside-end-requires Inv-loop μ-loop
 inside-end-requires c κs = search needs
 
+-- the bytes inside quotes, up to the end of their run
+ran : (n : tie.After-inside-end Inv-loop μ-loop) →
+    let g = n .before .before .before .before .args in
+    let e = n .inside-end .result in quotedEnd false (g .from) (drop (g .from) (g .text .now)) ≡ quotedEnd false e (drop e (g .text .now))
+ran n = n .before .before .loop .inv ∙ n .inside-end .ensures .same
+
 returns : tie.Need-returns Inv-loop μ-loop
-returns c =
-    let n = c .before in
-    let l = n .before .before in
-    let t = l .before .before .args .text .now in
-    let e = n .inside-end .result in
-    let w = n .inside-end .ensures in
-    sym (l .loop .inv ∙ (w .same ∙ quoted-over t e (c .if1 .taken) false))
+returns c = sym (ran (c .before) ∙ quoted-over _ _ (c .if1 .taken) false)
 
 shared-slice-read-if2 : tie.Need-shared-slice-read-if2 Inv-loop μ-loop
 shared-slice-read-if2 c = omega arith
 
 returns-2 : tie.Need-returns-2 Inv-loop μ-loop
 returns-2 c =
-    let n = c .before .before .before in
-    let l = n .before .before in
-    let t = l .before .before .args .text .now in
-    let e = n .inside-end .result in
-    let w = n .inside-end .ensures in
-    sym (l .loop .inv ∙ (w .same ∙ inside-here t e (c .before .before .if1 .left) (w .ends (c .before .before .if1 .left)) (c .if2 .taken)))
+    let f = c .before .before in
+    let n = f .before in
+    sym (ran n ∙ inside-here _ _ (f .if1 .left) (n .inside-end .ensures .ends (f .if1 .left)) (c .if2 .taken))
 
 add-j : tie.Need-add-j Inv-loop μ-loop
 add-j c = omega arith
 
 returns-3 : tie.Need-returns-3 Inv-loop μ-loop
 returns-3 c =
-    let n = c .before .before .before .before in
-    let l = n .before .before in
-    let t = l .before .before .args .text .now in
-    let e = n .inside-end .result in
-    let w = n .inside-end .ensures in
-    sym (l .loop .inv ∙ (w .same ∙ (quote-closes t e (omega arith) (c .before .if2 .left) ∙ quoted-over t (e + 1) (c .if3 .taken) true)))
+    let q = c .before in
+    sym (ran (q .before .before .before) ∙ (quote-closes _ _ (omega arith) (q .if2 .left) ∙ quoted-over _ _ (c .if3 .taken) true))
 
 shared-slice-read-if4 : tie.Need-shared-slice-read-if4 Inv-loop μ-loop
 shared-slice-read-if4 c = omega arith
 
 returns-4 : tie.Need-returns-4 Inv-loop μ-loop
 returns-4 c =
-    let n = c .before .before .before .before .before .before in
-    let l = n .before .before in
-    let t = l .before .before .args .text .now in
-    let e = n .inside-end .result in
-    let w = n .inside-end .ensures in
-    sym (l .loop .inv ∙ (w .same ∙ (quote-closes t e (omega arith) (c .before .before .before .if2 .left) ∙ closed-here t (e + 1) (c .before .before .if3 .left) (c .if4 .taken))))
+    let f = c .before .before in
+    let q = f .before in
+    sym (ran (q .before .before .before) ∙ (quote-closes _ _ (omega arith) (q .if2 .left) ∙ closed-here _ _ (f .if3 .left) (c .if4 .taken)))
 
 add-i : tie.Need-add-i Inv-loop μ-loop
 add-i c = omega arith
 
 loop-less : tie.Need-loop-less Inv-loop μ-loop
-loop-less c =
-    let n = c .before .before .before .before .before .before in
-    let l = n .before .before in
-    let t = l .before .before .args .text .now in
-    let e = n .inside-end .result in
-    let w = n .inside-end .ensures in
-    let a = w .after in omega arith
+loop-less c = let a = c .before .before .before .before .before .before .inside-end .ensures .after in omega arith
 
 loop-again : tie.Need-loop-again Inv-loop μ-loop
 loop-again c =
-    let n = c .before .before .before .before .before .before in
-    let l = n .before .before in
-    let t = l .before .before .args .text .now in
-    let e = n .inside-end .result in
-    let w = n .inside-end .ensures in
-    l .loop .inv ∙ (w .same ∙ (quote-closes t e (omega arith) (c .before .before .before .if2 .left) ∙ quote-again t (e + 1) (c .before .before .if3 .left) (c .if4 .left)))
+    let f = c .before .before in
+    let q = f .before in
+    ran (q .before .before .before) ∙ (quote-closes _ _ (omega arith) (q .if2 .left) ∙ quote-again _ _ (f .if3 .left) (c .if4 .left))
 
 returns-5 : tie.Need-returns-5 Inv-loop μ-loop
 returns-5 c = let l = c .before .loop in sym (l .inv ∙ quoted-over _ (l .i) (omega arith) false)

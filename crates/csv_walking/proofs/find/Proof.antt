@@ -32,59 +32,41 @@ seek-requires c κs = search needs
 enum-told : tie.Need-enum-told Inv-loop μ-loop
 enum-told c = search needs
 
+-- the field that the walk comes to
+came : (k : tie.After-seek Inv-loop μ-loop) →
+    let f = k .before .before in
+    let l = f .before .before .before in
+    nextOf (l .before .before .before .args .text .now) (l .loop .w) ≡ Field (f .s .given .0 .0) (f .s .given .0 .1 .0)
+came k = let f = k .before .before in sym (f .before .before .next .ensures) ∙ f .s .given .1
+
 returns : tie.Need-returns Inv-loop μ-loop
 returns c =
-    let y = c in
-    let k = y .before .before in
-    let q = k .before in
-    let n = q .before .before .before in
-    let l = n .before in
-    let g = l .before .before .before .args in
-    let v = q .before .s .given .0 .1 .0 in
-    let e : nextOf (g .text .now) (l .loop .w) ≡ Field (q .before .s .given .0 .0) v = sym (n .next .ensures) ∙ q .before .s .given .1 in
-    search-here (g .text .now) (g .row) (g .column) (l .loop .w) (l .loop .r) (l .loop .k) (l .loop .inv) v (q .before .s .given .0 .0) e (sym (y .enum-told .given .1) ∙ k .seek .ensures)
+    let k = c .before .before in
+    let inv = k .before .before .before .before .before .loop .inv in
+    search-here _ _ _ _ _ _ inv _ _ (came k) (sym (c .enum-told .given .1) ∙ k .seek .ensures)
 
 enum-told-2 : tie.Need-enum-told-2 Inv-loop μ-loop
 enum-told-2 c = search needs
 
 returns-2 : tie.Need-returns-2 Inv-loop μ-loop
 returns-2 c =
-    let y = c in
-    let k = y .before .before in
-    let q = k .before in
-    let n = q .before .before .before in
-    let l = n .before in
-    let g = l .before .before .before .args in
-    let v = q .before .s .given .0 .1 .0 in
-    let e : nextOf (g .text .now) (l .loop .w) ≡ Field (q .before .s .given .0 .0) v = sym (n .next .ensures) ∙ q .before .s .given .1 in
-    search-nowhere (g .text .now) (g .row) (g .column) (l .loop .w) (l .loop .r) (l .loop .k) (l .loop .inv) v (q .before .s .given .0 .0) e (sym (y .enum-told2 .given .1) ∙ k .seek .ensures)
+    let k = c .before .before in
+    let inv = k .before .before .before .before .before .loop .inv in
+    search-nowhere _ _ _ _ _ _ inv _ _ (came k) (sym (c .enum-told2 .given .1) ∙ k .seek .ensures)
 
 enum-known-a : tie.Need-enum-known-a Inv-loop μ-loop
 enum-known-a c = search needs
 
 loop-less : tie.Need-loop-less Inv-loop μ-loop
 loop-less c =
-    let y = c .before in
-    let k = y .before .before in
-    let q = k .before in
-    let n = q .before .before .before in
-    let l = n .before in
-    let g = l .before .before .before .args in
-    let v = q .before .s .given .0 .1 .0 in
-    let e : nextOf (g .text .now) (l .loop .w) ≡ Field (q .before .s .given .0 .0) v = sym (n .next .ensures) ∙ q .before .s .given .1 in
-    visited (g .text .now) (l .loop .w) v (q .before .s .given .0 .0) e .1
+    let k = c .before .before .before in
+    visited _ _ _ _ (came k) .1
 
 loop-again : tie.Need-loop-again Inv-loop μ-loop
 loop-again c =
-    let y = c .before in
-    let k = y .before .before in
-    let q = k .before in
-    let n = q .before .before .before in
-    let l = n .before in
-    let g = l .before .before .before .args in
-    let v = q .before .s .given .0 .1 .0 in
-    let e : nextOf (g .text .now) (l .loop .w) ≡ Field (q .before .s .given .0 .0) v = sym (n .next .ensures) ∙ q .before .s .given .1 in
-    search-later (g .text .now) (g .row) (g .column) (l .loop .w) (l .loop .r) (l .loop .k) (l .loop .inv) v (q .before .s .given .0 .0) e (y .a .given .0 .0) (y .a .given .0 .1 .0) (sym (y .a .given .1) ∙ k .seek .ensures)
+    let k = c .before .before .before in
+    let inv = k .before .before .before .before .before .loop .inv in
+    search-later _ _ _ _ _ _ inv _ _ (came k) _ _ (sym (c .before .a .given .1) ∙ k .seek .ensures)
 
 enum-told-3 : tie.Need-enum-told-3 Inv-loop μ-loop
 enum-told-3 c = search needs
@@ -92,9 +74,7 @@ enum-told-3 c = search needs
 returns-3 : tie.Need-returns-3 Inv-loop μ-loop
 returns-3 c =
     let n = c .before .before in
-    let l = n .before in
-    let g = l .before .before .before .args in
-    search-done (g .text .now) (g .row) (g .column) (l .loop .w) (l .loop .r) (l .loop .k) (l .loop .inv) (sym (n .next .ensures) ∙ c .enum-told3 .given .1)
+    search-done _ _ _ _ _ _ (n .before .loop .inv) (sym (n .next .ensures) ∙ c .enum-told3 .given .1)
 
 pub find-spec : {M : Type 1} → statement M
 find-spec =
