@@ -92,7 +92,8 @@ uint64_t orders_read(const uint8_t *text, size_t text_len, uint64_t answer[2]);
 
 /*
  * Finds a field by row and column: part is the place where it starts and its length, quotes included; 0 and 0 where there is no such row or
- * column, or the text is refused. The text is read from its beginning at each call; to go over all fields there is orders_next.
+ * column, or the text is refused. An empty field at the text's start is 0 and 0 too: orders_read tells which rows and columns there are. The
+ * text is read from its beginning at each call; to go over all fields there is orders_next.
  */
 STRUMOK_NONNULL
 void orders_part(const uint8_t *text, size_t text_len, size_t row, size_t column, uint64_t part[2]);
@@ -101,7 +102,7 @@ void orders_part(const uint8_t *text, size_t text_len, size_t row, size_t column
  * Writes the content of a part to the front of the target, and its byte count to written. Later bytes of the target keep their values. The
  * content is never longer than the part. Every part that orders_part finds is a field, also the empty one.
  *
- * Refusals, with 0 in written and with the target as it was: 11 for a part that is no field, then 5.
+ * Refusals, with 0 in written and with the target as it was: 11 for a part that is no field, then 5; both are at place 0.
  */
 STRUMOK_MUST_USE STRUMOK_NONNULL
 uint64_t orders_content(const uint8_t *part, size_t part_len, uint8_t *target, size_t target_len, uint64_t *written);

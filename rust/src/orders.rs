@@ -196,9 +196,9 @@ pub struct Fields<'a> {
 }
 
 impl Fields<'_> {
-    /// Whether another field of the same row follows.
+    /// Whether another field of the same row follows: the second word is odd.
     fn row_goes_on(&self) -> bool {
-        self.cursor[1] == 1
+        self.cursor[1] % 2 == 1
     }
 }
 

@@ -15,10 +15,12 @@ use Rattle.refusals.specs.Lines.{RefusesInOrder}
 use Rattle.refusals.proofs.Lines.{Decides, DecideAll, refuses-in-order}
 use Rattle.csv_grammar.specs.Grammar as G
 use Rattle.csv_fields.specs.Ends.{isTextData, isInside, plainEnd, quotedEnd, fieldEnd}
+use Rattle.csv_grammar.proofs.Automaton.{Kind, Plain, Comma, Quote, Cr, Lf, Control, kindOf}
+use Rattle.csv_grammar.proofs.Letters.{Told, told}
 use Rattle.csv_fields.proofs.Bytes.{textdata, textdata-bounds}
 use Rattle.csv_contents.specs.declared.Written.the-variants.{Bytes, Refused}
 use Rattle.csv_contents.specs.Contents.{Unescaped, Content, unquoted, contentOf, isField, contentTests, answerOf, targetOf, numberOf, valuesOf, contentLines}
-use Rattle.csv_contents.specs.ContentsLaws.{doubled, ContentsLaws}
+use Rattle.csv_contents.specs.ContentsLaws.{doubled, Writable, ContentsLaws}
 use Rattle.csv_contents.proofs.Measuring.{field-is, is-field}
 
 -- ---- the relation and the function
@@ -71,6 +73,31 @@ unescaped-doubled (Unescaped.two-quotes p) = rw (unescaped-doubled p)
 written-back : {f c : List ℕ} → Content f c → (G.NonEscaped f × (c ≡ f)) ⊎ (f ≡ 34 ∷ (doubled c ++ (34 ∷ [])))
 written-back (Content.non-escaped p) = inl (p, refl)
 written-back (Content.escaped p) = inr (rw (unescaped-doubled p))
+
+-- a byte of a content stands inside quotes, doubled if it is a quote
+unescaped-byte : (b : ℕ) {s c : List ℕ} → ((32 ≤ b) × (b ≡ 127 → ⊥)) ⊎ ((b ≡ 13) ⊎ (b ≡ 10)) → Unescaped s c → Unescaped (cond (eqb b 34) (34 ∷ (34 ∷ s)) (b ∷ s)) (b ∷ c)
+unescaped-byte b {s} {c} w p = go (kindOf b) (told b)
+  where
+    no-control : ((b < 32) × (b ≡ 13 → ⊥) × (b ≡ 10 → ⊥)) ⊎ (b ≡ 127) → ((32 ≤ b) × (b ≡ 127 → ⊥)) ⊎ ((b ≡ 13) ⊎ (b ≡ 10)) → ⊥
+    no-control (inl h) (inl v) = omega (arith, h .0)
+    no-control (inl h) (inr (inl e)) = h .1 e
+    no-control (inl h) (inr (inr e)) = h .2 e
+    no-control (inr h) (inl v) = v .1 h
+    no-control (inr h) (inr (inl e)) = omega arith
+    no-control (inr h) (inr (inr e)) = omega arith
+
+    go : (k : Kind) → Told b k → Unescaped (cond (eqb b 34) (34 ∷ (34 ∷ s)) (b ∷ s)) (b ∷ c)
+    go Plain h = rw (ne-eqb b 34 (textdata-bounds b (textdata b h) .1)) (Unescaped.textdata h p)
+    go Comma e = rw e (Unescaped.comma p)
+    go Quote e = rw e (Unescaped.two-quotes p)
+    go Cr e = rw e (Unescaped.cr p)
+    go Lf e = rw e (Unescaped.lf p)
+    go Control h = absurd (no-control h w)
+
+doubled-unescaped : (c : List ℕ) → Writable c → Unescaped (doubled c) c
+unfolding doubled
+doubled-unescaped [] w = Unescaped.none
+doubled-unescaped (b ∷ c) w = unescaped-byte b (w .0) (doubled-unescaped c (w .1))
 
 -- a byte that is no quote, before the closing one
 unquoted-byte : (b : ℕ) (s c : List ℕ) → (b ≡ 34 → ⊥) → unquoted (s ++ (34 ∷ [])) ≡ c → unquoted (b ∷ (s ++ (34 ∷ []))) ≡ b ∷ c
@@ -172,6 +199,7 @@ contents-laws =
       one-content = λ f c d p q. sym (content-is p) ∙ content-is q;
       only-fields = λ f c p. only-fields p;
       written-back = λ f c p. written-back p;
+      every-content = λ c w. Content.escaped (doubled-unescaped c w);
       no-longer = λ f c p. no-longer p;
       refuses = refuses;
       refused-place = refused-place;

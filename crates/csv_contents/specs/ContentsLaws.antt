@@ -16,6 +16,11 @@ unfoldable pub doubled : List ℕ → List ℕ
 doubled [] = []
 doubled (b ∷ c) = cond (eqb b 34) (34 ∷ (34 ∷ doubled c)) (b ∷ doubled c)
 
+-- bytes from 32 on but 127, CR and LF
+abbrev pub Writable : List ℕ → Type 0
+Writable [] = Unit
+Writable (b ∷ c) = (((32 ≤ b) × (b ≡ 127 → ⊥)) ⊎ ((b ≡ 13) ⊎ (b ≡ 10))) × Writable c
+
 pub record ContentsLaws : Type 0 where
   -- a field has one content, and only a field has one
   pub has-content : (f : List ℕ) → Field f → (c : List ℕ) × Content f c
@@ -23,6 +28,8 @@ pub record ContentsLaws : Type 0 where
   pub only-fields : (f c : List ℕ) → Content f c → Field f
   -- a field is its content, or its content with quotes doubled, between quotes
   pub written-back : (f c : List ℕ) → Content f c → (NonEscaped f × (c ≡ f)) ⊎ (f ≡ 34 ∷ (doubled c ++ (34 ∷ [])))
+  -- and so every content of such bytes has a field
+  pub every-content : (c : List ℕ) → Writable c → Content (34 ∷ (doubled c ++ (34 ∷ []))) c
   -- a target as long as the field has room for it
   pub no-longer : (f c : List ℕ) → Content f c → length c ≤ length f
   -- demand 1: "11 for a part that is no field, then 5 for a target shorter than the content", "both at place 0"

@@ -22,11 +22,11 @@ all-read (r ∷ rows) e = (subst (Reads (r .text)) (e .0) (reads (r .text)), all
 
 accepted-rows : AllComputed acceptedRows
 unfolding readOf readFrom kindOf counted endOf
-accepted-rows = (refl, (refl, (refl, (refl, (refl, (refl, (refl, (refl, (refl, tt)))))))))
+accepted-rows = (refl, (refl, (refl, (refl, (refl, (refl, (refl, (refl, (refl, (refl, (refl, tt)))))))))))
 
 refused-rows : AllComputed refusedRows
 unfolding readOf readFrom kindOf counted endOf
-refused-rows = (refl, (refl, (refl, (refl, (refl, (refl, (refl, (refl, (refl, (refl, (refl, (refl, (refl, (refl, (refl, (refl, (refl, (refl, tt))))))))))))))))))
+refused-rows = (refl, (refl, (refl, (refl, (refl, (refl, (refl, (refl, (refl, (refl, (refl, (refl, (refl, (refl, (refl, (refl, (refl, (refl, (refl, (refl, (refl, (refl, tt))))))))))))))))))))))
 
 division : G.Text dividedText itsLines itsLast
 unfolding kindOf
@@ -44,4 +44,4 @@ shared-place = (
 )
 
 pub worked-texts : WorkedTexts
-worked-texts = record { shared-place = shared-place; accepted-rows = all-read acceptedRows accepted-rows; refused-rows = all-read refusedRows refused-rows; division = division; places = refl; by-row-and-column = (refl, refl); equal-places = refl }
+worked-texts = record { shared-place = shared-place; accepted-rows = all-read acceptedRows accepted-rows; refused-rows = all-read refusedRows refused-rows; division = division; places = refl; by-row-and-column = (refl, refl); equal-places = refl; empty-places = refl }

@@ -29,7 +29,7 @@ acceptedRows =
     row [] (Counts 0 0) ∷ row (13 ∷ 10 ∷ 13 ∷ 10 ∷ []) (Counts 0 0) ∷ row (34 ∷ 34 ∷ []) (Counts 1 1) ∷ row (97 ∷ []) (Counts 1 1)
     ∷ row (97 ∷ 13 ∷ 10 ∷ 13 ∷ 10 ∷ 98 ∷ 13 ∷ 10 ∷ []) (Counts 2 1) ∷ row (97 ∷ 44 ∷ 98 ∷ 13 ∷ 10 ∷ 44 ∷ []) (Counts 2 2)
     ∷ row (34 ∷ 44 ∷ 13 ∷ 10 ∷ 34 ∷ 34 ∷ 34 ∷ 44 ∷ 98 ∷ []) (Counts 1 2) ∷ row (32 ∷ 33 ∷ 35 ∷ 43 ∷ 45 ∷ 126 ∷ 128 ∷ 255 ∷ []) (Counts 1 1)
-    ∷ row (commas 31) (Counts 1 32) ∷ []
+    ∷ row (34 ∷ 13 ∷ 34 ∷ []) (Counts 1 1) ∷ row (34 ∷ 10 ∷ 34 ∷ []) (Counts 1 1) ∷ row (commas 31) (Counts 1 32) ∷ []
 
 abbrev pub refusedRows : List Row
 refusedRows =
@@ -39,7 +39,9 @@ refusedRows =
     ∷ row (97 ∷ 13 ∷ 10 ∷ 97 ∷ 44 ∷ 13 ∷ 98 ∷ []) (Refused 12 5) ∷ row (97 ∷ 44 ∷ 98 ∷ 13 ∷ 10 ∷ 97 ∷ 13 ∷ 10 ∷ 10 ∷ []) (Refused 12 6)
     ∷ row (97 ∷ 44 ∷ 98 ∷ 13 ∷ 10 ∷ 97 ∷ []) (Refused 12 6) ∷ row (commas 32) (Refused 13 31) ∷ row (commas 32 ++ (10 ∷ [])) (Refused 13 31)
     ∷ row (commas 31 ++ (10 ∷ 44 ∷ [])) (Refused 11 31) ∷ row (97 ∷ 13 ∷ 10 ∷ commas 32) (Refused 13 34)
-    ∷ row (97 ∷ 13 ∷ 10 ∷ commas 31) (Refused 12 34) ∷ []
+    ∷ row (97 ∷ 13 ∷ 10 ∷ commas 31) (Refused 12 34) ∷ row (97 ∷ 13 ∷ 10 ∷ 97 ∷ 44 ∷ 13 ∷ []) (Refused 12 5)
+    ∷ row (13 ∷ 10 ∷ 97 ∷ 13 ∷ 10 ∷ 97 ∷ 13 ∷ 10 ∷ 97 ∷ 44 ∷ 13 ∷ 10 ∷ []) (Refused 12 10) ∷ row (97 ∷ 44 ∷ 98 ∷ 13 ∷ 10 ∷ 13 ∷ []) (Refused 11 6)
+    ∷ row (97 ∷ 44 ∷ 98 ∷ 13 ∷ 10 ∷ 13 ∷ 98 ∷ []) (Refused 11 6) ∷ []
 
 abbrev pub AllRead : List Row → Type 0
 AllRead [] = Unit
@@ -66,6 +68,13 @@ brokenRow = 97 ∷ 13 ∷ 10 ∷ 97 ∷ 44 ∷ 34 ∷ []
 abbrev pub equalLines : List (List (List ℕ))
 equalLines = ([] ∷ []) ∷ ((97 ∷ []) ∷ (97 ∷ []) ∷ []) ∷ ([] ∷ []) ∷ ((34 ∷ 97 ∷ 34 ∷ []) ∷ [] ∷ []) ∷ []
 
+-- a line of three fields of no bytes, and one with a letter between two such
+abbrev pub emptyFields : List (List (List ℕ))
+emptyFields = ([] ∷ [] ∷ [] ∷ []) ∷ []
+
+abbrev pub emptyAround : List (List ℕ)
+emptyAround = [] ∷ (97 ∷ []) ∷ [] ∷ []
+
 pub record WorkedTexts : Type 0 where
   -- 11 and 12 at one place; it is read as 11 at place 6, above
   pub shared-place : NotCsvAt brokenRow 6 × RaggedAt brokenRow 6
@@ -75,3 +84,5 @@ pub record WorkedTexts : Type 0 where
   pub places : spansOf itsLines itsLast ≡ (span 0 1 ∷ span 2 8 ∷ []) ∷ (span 12 13 ∷ span 14 14 ∷ []) ∷ []
   pub by-row-and-column : (entry (tableOf itsLines itsLast) 1 0 ≡ 98 ∷ []) × (spanAt (spansOf itsLines itsLast) 0 1 ≡ span 2 8)
   pub equal-places : spansOf equalLines ([] ∷ []) ≡ (span 2 3 ∷ span 4 5 ∷ []) ∷ (span 9 12 ∷ span 13 13 ∷ []) ∷ []
+  pub empty-places :
+      spansOf emptyFields emptyAround ≡ (span 0 0 ∷ span 1 1 ∷ span 2 2 ∷ []) ∷ (span 4 4 ∷ span 5 6 ∷ span 7 7 ∷ []) ∷ []

@@ -386,25 +386,45 @@ module _ (text : List ℕ) (c : Tally) (i e : ℕ) {m : Mode} {blank : Bool} (w 
   unfolding readFrom
   other-reads h k r = w .same ∙ (there text e m c (getD text e 0) h refl ∙ rw (w .stops h k r))
 
-  pub after-reached : blank ≡ blankFrom c i e → c .rows ≤ i → c .fields ≤ i → Continues text c i (afterField text c i e)
-  unfolding afterField atByte afterComma afterCr atEnd answerOf
-  after-reached eb rows fields =
-      rw (← eb)
-      (split (Continues text c i) (ltb e (length text)) (λ l. let h = ltb-true e (length text) l in
-      split (Continues text c i) (eqb (getD text e 0) 44) (λ k. let b = comma-reads h (eqb-true _ 44 k) in
-      split (Continues text c i) (eqb (c .fields + 1) 32) (λ y. b ∙ rw y) (λ z. (b ∙ rw z, omega (arith, w .after), omega arith, omega (arith, w .after), omega (arith, w .after)))) (λ k.
-      split (Continues text c i) (eqb (getD text e 0) 13) (λ r. let b = cr-reads h (eqb-true _ 13 r) in
-      split (Continues text c i) (ragged c blank) (λ y. b ∙ rw y) (λ z.
-      split (Continues text c i) (lfAt text (e + 1)) (λ y. let s = line-small c blank in (b ∙ rw (z, y), omega (arith, w .after), lf-within y, omega (arith, w .after), omega (arith, w .after))) (λ n. b ∙ rw (z, n)))) (λ r.
-      other-reads h (eqb-false _ 44 k) (eqb-false _ 13 r)))) (λ l. let b = end-reads (ltb-false e (length text) l) in
-      split (Continues text c i) (ragged c blank) (λ y. b ∙ rw y) (λ z. b ∙ rw z)))
-    where
-      lf-within : lfAt text (e + 1) ≡ true → e + 1 + 1 ≤ length text
-      lf-within y = by (ltb (e + 1) (length text)) refl y
-        where
-          by : (x : Bool) → ltb (e + 1) (length text) ≡ x → cond x (eqb (getD text (e + 1) 0) 10) false ≡ true → e + 1 + 1 ≤ length text
-          by true q z = let h = ltb-true (e + 1) (length text) q in omega arith
-          by false q z = absurd (true≢false (sym z))
+  -- and what the reading comes to there
+  module _ (rows : c .rows ≤ i) (fields : c .fields ≤ i) where
+    comma-continues : e < length text → getD text e 0 ≡ 44 → Continues text c i (afterComma c e)
+    unfolding afterComma answerOf
+    comma-continues h k =
+        let b = comma-reads h k in
+        split (Continues text c i) (eqb (c .fields + 1) 32) (λ y. b ∙ rw y) (λ z. (b ∙ rw z, omega (arith, w .after), omega arith, omega (arith, w .after), omega (arith, w .after)))
+
+    lf-within : lfAt text (e + 1) ≡ true → e + 1 + 1 ≤ length text
+    lf-within y = by (ltb (e + 1) (length text)) refl y
+      where
+        by : (x : Bool) → ltb (e + 1) (length text) ≡ x → cond x (eqb (getD text (e + 1) 0) 10) false ≡ true → e + 1 + 1 ≤ length text
+        by true q z = let h = ltb-true (e + 1) (length text) q in omega arith
+        by false q z = absurd (true≢false (sym z))
+
+    cr-continues : blank ≡ blankFrom c i e → e < length text → getD text e 0 ≡ 13 → Continues text c i (afterCr text c i e)
+    unfolding afterCr answerOf
+    cr-continues eb h k =
+        let b = cr-reads h k in
+        rw (← eb)
+        (split (Continues text c i) (ragged c blank) (λ y. b ∙ rw y) (λ z.
+        split (Continues text c i) (lfAt text (e + 1)) (λ y. let s = line-small c blank in (b ∙ rw (z, y), omega (arith, w .after), lf-within y, omega (arith, w .after), omega (arith, w .after))) (λ n. b ∙ rw (z, n))))
+
+    end-continues : blank ≡ blankFrom c i e → length text ≤ e → Continues text c i (atEnd c i e)
+    unfolding atEnd answerOf
+    end-continues eb h =
+        let b = end-reads h in
+        rw (← eb) (split (Continues text c i) (ragged c blank) (λ y. b ∙ rw y) (λ z. b ∙ rw z))
+
+    byte-continues : blank ≡ blankFrom c i e → e < length text → Continues text c i (atByte text c i e)
+    unfolding atByte answerOf
+    byte-continues eb h =
+        split (Continues text c i) (eqb (getD text e 0) 44) (λ k. comma-continues h (eqb-true _ 44 k)) (λ k.
+        split (Continues text c i) (eqb (getD text e 0) 13) (λ r. cr-continues eb h (eqb-true _ 13 r)) (λ r.
+        other-reads h (eqb-false _ 44 k) (eqb-false _ 13 r)))
+
+    pub after-reached : blank ≡ blankFrom c i e → Continues text c i (afterField text c i e)
+    unfolding afterField
+    after-reached eb = split (Continues text c i) (ltb e (length text)) (λ l. byte-continues eb (ltb-true e (length text) l)) (λ l. end-continues eb (ltb-false e (length text) l))
 
 -- ---- a step
 
@@ -414,11 +434,11 @@ module _ (text : List ℕ) (c : Tally) (i : ℕ) (h : i ≤ length text) (rows :
   quoted-continues l q f ef = by (f .whole) refl
     where
       by : (x : Bool) → f .whole ≡ x → Continues text c i (cond x (afterField text c i (f .at)) (overAt 11 (f .at) c))
-      by true w = after-reached text c i (f .at) (quoted-reached text c i h l q f ef w) refl rows fields
+      by true w = after-reached text c i (f .at) (quoted-reached text c i h l q f ef w) rows fields refl
       by false w = quoted-broken text c i h l q f ef w
 
   plain-continues : (i < length text → getD text i 0 ≡ 34 → ⊥) → Continues text c i (afterEnd text c i (record { at = plainEnd i (drop i text); whole = true }))
-  plain-continues n = let r = plain-reached text c i h n in after-reached text c i (plainEnd i (drop i text)) (r .1) refl rows fields
+  plain-continues n = let r = plain-reached text c i h n in after-reached text c i (plainEnd i (drop i text)) (r .1) rows fields refl
 
   pub continues : Continues text c i (stepOf text c i)
   unfolding stepOf

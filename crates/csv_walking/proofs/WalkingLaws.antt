@@ -1,5 +1,5 @@
 -- The laws of walks and parts.
-use Prim.Native.Nat.{ℕ, zero, suc, _≤_}
+use Prim.Native.Nat.{ℕ, zero, suc, _+_, _≤_}
 use mathlib.Core.Path.{_≡_, refl, sym, ap, _∙_, subst, subst⁻¹}
 use mathlib.Core.Logic.{_⊎_, inl, inr}
 use mathlib.Core.List.{List, [], _∷_}
@@ -101,5 +101,6 @@ walking-laws =
       none-refused = λ t a h e row column s p. none-refused a h e p;
       none-empty = λ t row column f p q. none-empty (readOf t) (reads t) p q;
       handed-over = λ origin t row column found f p. (p .0, p .1, p .2);
+      handed-where = λ origin found t f row column p s q. let e = one-part (readOf t) (reads t) (p .1) q in (p .3, p .4 ∙ ap (λ (x : Span). x .start + origin .1) e);
       part-field = λ t row column f p. part-field (readOf t) (reads t) p;
     }

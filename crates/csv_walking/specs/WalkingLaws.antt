@@ -1,5 +1,5 @@
 -- The laws of walks and parts. proofs/WalkingLaws.antt has `walking-laws : WalkingLaws`.
-use Prim.Native.Nat.{ℕ, _<_, _≤_}
+use Prim.Native.Nat.{ℕ, _+_, _<_, _≤_}
 use mathlib.Core.Path.{_≡_}
 use mathlib.Core.Logic.{_⊎_}
 use mathlib.Core.List.{List, []}
@@ -38,7 +38,10 @@ pub record WalkingLaws : Type 0 where
   pub none-refused :
       (t : List ℕ) (a : Answer) → Reads t a → (numberOf a ≡ 0 → ⊥) → (row column : ℕ) (s : Span) → Part t row column s → s ≡ record { start = 0; end = 0 }
   pub none-empty : (t : List ℕ) (row column : ℕ) (f : List ℕ) → FieldAt t row column f → Part t row column (record { start = 0; end = 0 }) → f ≡ []
-  -- what `field` hands over are these bytes, and every one is a field of the grammar
+  -- what `field` hands over are these bytes, in the text's own memory as far behind its start as the part's start, and every one is a field of the grammar
   pub handed-over :
       (origin : ℕ × ℕ) (t : List ℕ) (row column : ℕ) (found : ℕ × ℕ) (f : List ℕ) → HandsOver origin t row column found f → FieldAt t row column f
+  pub handed-where :
+      (origin found : ℕ × ℕ) (t f : List ℕ) (row column : ℕ) → HandsOver origin t row column found f
+      → (s : Span) → Part t row column s → (found .0 ≡ origin .0) × (found .1 ≡ s .start + origin .1)
   pub part-field : (t : List ℕ) (row column : ℕ) (f : List ℕ) → FieldAt t row column f → Field f

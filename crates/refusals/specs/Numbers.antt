@@ -1,5 +1,5 @@
--- Document 01, the table of returned numbers, and those of document 02: each number has one name, here, in src/numbers.rt and, up to 10, after
--- STRUMOK_ in the header for C.
+-- Document 01, the table of returned numbers, and those of document 02: each number has one name, here, in src/numbers.rt and in the headers for C,
+-- up to 10 after STRUMOK_, and 5 and 11 to 13 after ORDERS_.
 use mathlib.Core.Path.{_≡_}
 use mathlib.Core.List.{List, [], _∷_}
 use Prim.Native.Nat.{ℕ}

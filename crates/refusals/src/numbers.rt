@@ -1,4 +1,4 @@
-// The numbers that a call answers with; the same names as in specs/Numbers.antt and, up to 10, in the header for C.
+// The numbers that a call answers with; the same names as in specs/Numbers.antt and in the headers for C.
 
 // Not refused.
 pub const ACCEPTED: u64 = 0;
