@@ -12,9 +12,9 @@ use lib.Seq.{drop-cons, take-suc, getD-drop}
 use borrow.Author.Tests.{eq-eqb, ne-eqb, ltb-true, ltb-false}
 use Rattle.csv_fields.specs.Ends.{isInside, quotedEnd}
 use Rattle.csv_fields.proofs.Bytes.{inside-no}
-use Rattle.csv_fields.proofs.Runs.{inside-on}
+use Rattle.csv_fields.proofs.Runs.{inside-on, not-last}
 use Rattle.csv_contents.specs.Contents.{unquoted}
-use Rattle.csv_contents.specs.Measures.{runStop}
+use Rattle.csv_contents.specs.Measures.{InsideRun, runStop}
 
 short : (s : List ℕ) → length s ≤ 1 → unquoted s ≡ []
 unfolding unquoted
@@ -46,27 +46,27 @@ module _ (t : List ℕ) (i : ℕ) where
     unfolding unquoted
     unquoted-pair e = ap unquoted two ∙ rw (eq-eqb (getD t i 0) 34 e)
 
--- a byte that is no quote is not the last one, where that is a quote
+-- a byte that is no quote stands before the last one, where that is a quote
 pub before-quote : (t : List ℕ) (i : ℕ) → i < length t → getD t (length t - 1) 0 ≡ 34 → (getD t i 0 ≡ 34 → ⊥) → i + 1 < length t
-before-quote t i h l n = by (ltb (i + 1) (length t)) refl
-  where
-    by : (x : Bool) → ltb (i + 1) (length t) ≡ x → i + 1 < length t
-    by true q = ltb-true (i + 1) (length t) q
-    by false q =
-        let m = ltb-false (i + 1) (length t) q in
-        let k : length t - 1 ≡ i = omega arith in
-        absurd (n (rw k at l))
+before-quote t i h l n = not-last t i h (λ q. n (q ∙ l))
 
 pub inside-no-quote : (b : ℕ) → isInside b ≡ true → b ≡ 34 → ⊥
 inside-no-quote b e q = true≢false (sym e ∙ inside-no b (inl q))
 
--- one byte more inside quotes
-pub inside-more : (t : List ℕ) (i : ℕ) → i < length t → getD t (length t - 1) 0 ≡ 34 → isInside (getD t i 0) ≡ true →
-    (i + 1 < length t) × (quotedEnd false i (drop i t) ≡ quotedEnd false (i + 1) (drop (i + 1) t)) × (length (unquoted (drop i t)) ≡ 1 + length (unquoted (drop (i + 1) t)))
-inside-more t i h l e =
-    let n = inside-no-quote (getD t i 0) e in
-    let k = before-quote t i h l n in
-    (k, inside-on t i h e, ap length (unquoted-on t i k n) ∙ omega arith)
+-- the bytes from one place to another stand inside quotes, each is a byte of the content, and the other is within the part
+abbrev pub InsideTo : (t : List ℕ) (i e : ℕ) → Type 0
+InsideTo t i e = (quotedEnd false i (drop i t) ≡ quotedEnd false e (drop e t)) × (length (unquoted (drop i t)) ≡ (e - i) + length (unquoted (drop e t))) × (i ≤ e) × (e < length t)
+
+-- one byte more inside quotes, where the last one is a quote
+pub inside-more : (t : List ℕ) (i e : ℕ) → getD t (length t - 1) 0 ≡ 34 → InsideTo t i e → isInside (getD t e 0) ≡ true → InsideTo t i (e + 1)
+inside-more t i e l r y =
+    let n = inside-no-quote (getD t e 0) y in
+    let k = before-quote t e (r .3) l n in
+    let u = ap length (unquoted-on t e k n) in
+    (r .0 ∙ inside-on t e (r .3) y, omega (arith, r .1, r .2, u), omega (arith, r .2), k)
+
+pub inside-stops : (t : List ℕ) (i e : ℕ) → InsideTo t i e → isInside (getD t e 0) ≡ false → InsideRun t i e
+inside-stops t i e r y = record { same = r .0; counts = r .1; after = r .2; within = r .3; ends = y }
 
 -- the bytes from one place to another are the content's own, and the other is within the part
 abbrev pub RunsTo : (t : List ℕ) (i q : ℕ) → Type 0

@@ -2,7 +2,7 @@
 use Prim.Native.Nat.{ℕ, _+_, _-_, _<_, _≤_}
 use mathlib.Core.Path.{_≡_, refl, sym, ap, _∙_}
 use mathlib.Core.Logic.{inl}
-use mathlib.Core.Bool.{Bool, true, false}
+use mathlib.Core.Bool.{Bool, true, false, true≢false}
 use mathlib.Core.List.{List}
 use native.Mathlib.Omega.{arith}
 use native.Mathlib.Numerals.{add-one}
@@ -40,7 +40,7 @@ module _ (text : List ℕ) (i : ℕ) (h : i < length text) where
   inside-on e = rw (add-one, drop-cons text i 0 h, no-quote (getD text i 0) e, e)
     where
       no-quote : (b : ℕ) → isInside b ≡ true → eqb b 34 ≡ false
-      no-quote b e = ne-eqb b 34 (λ q. let z : true ≡ false = sym e ∙ inside-no b (inl q) in let y : _≡_ {A = ℕ} 0 1 = cc in omega arith)
+      no-quote b e = ne-eqb b 34 (λ q. true≢false (sym e ∙ inside-no b (inl q)))
 
   pub inside-here : isInside (getD text i 0) ≡ false → (getD text i 0 ≡ 34 → ⊥) → quotedEnd false i (drop i text) ≡ record { at = i; whole = false }
   unfolding quotedEnd
@@ -68,18 +68,20 @@ module _ (text : List ℕ) (i : ℕ) (h : i < length text) where
   unfolding fieldEnd
   plain-field n = rw (drop-cons text i 0 h, ne-eqb (getD text i 0) 34 n)
 
-  -- a byte of TEXTDATA is not the last one, where that is a control byte
-  pub before-last : getD text (length text - 1) 0 < 32 → isTextData (getD text i 0) ≡ true → i + 1 < length text
-  before-last l e = by (ltb (i + 1) (length text)) refl
+  -- a byte that is not as the last one stands before it
+  pub not-last : (getD text i 0 ≡ getD text (length text - 1) 0 → ⊥) → i + 1 < length text
+  not-last n = by (ltb (i + 1) (length text)) refl
     where
       by : (t : Bool) → ltb (i + 1) (length text) ≡ t → i + 1 < length text
       by true q = ltb-true (i + 1) (length text) q
       by false q =
-          let n = ltb-false (i + 1) (length text) q in
-          let k : length text - 1 ≡ i = omega arith in
-          let z : true ≡ false = sym e ∙ textdata-no (getD text i 0) (inl (rw k at l)) in
-          let y : _≡_ {A = ℕ} 0 1 = cc in
-          absurd (omega arith)
+          let m = ltb-false (i + 1) (length text) q in
+          let k : i ≡ length text - 1 = omega arith in
+          absurd (n (ap (λ (x : ℕ). getD text x 0) k))
+
+  -- so does TEXTDATA where the last one is a control byte
+  pub before-last : getD text (length text - 1) 0 < 32 → isTextData (getD text i 0) ≡ true → i + 1 < length text
+  before-last l e = not-last (λ q. true≢false (sym e ∙ textdata-no (getD text i 0) (inl (omega (arith, l, q)))))
 
 -- from a place on, the TEXTDATA goes on to a later place k, which is within the text
 abbrev pub RunsTo : (text : List ℕ) (from k : ℕ) → Type 0

@@ -127,9 +127,6 @@ okay-blank (Okay.open-line {fs = fs} p q r e) h = blank-same r fs
 okay-blank (Okay.ended p q e) h = elim h [ ]
 okay-blank (Okay.dead e) h = absurd (no-ends-dead (subst Ends e h))
 
-pub skip-same : {d : Division} {t : List ℕ} → Okay d t → Ends (d .mode) → skipLine (counterOf d) ≡ skips (rowsOf (d .done)) (d .line ++ (d .field ∷ []))
-skip-same o h = okay-blank o h
-
 pub stop-counts : {d : Division} {t : List ℕ} → Okay d t → Ends (d .mode) → let c = counted (counterOf d) (blankLine (d .mode) (length (d .line))) in
     (c .row ≡ length (tableOf (d .done) (d .line ++ (d .field ∷ [])))) × (c .first ≡ columnsOf (tableOf (d .done) (d .line ++ (d .field ∷ []))))
 unfolding counted

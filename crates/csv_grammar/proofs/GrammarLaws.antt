@@ -1,5 +1,5 @@
 -- The laws of the grammar.
-use Prim.Native.Nat.{ℕ, zero, suc, _<_, _≤_}
+use Prim.Native.Nat.{ℕ, suc, _<_, _≤_}
 use mathlib.Core.Path.{_≡_, refl, sym, ap, _∙_, subst, subst⁻¹}
 use mathlib.Core.Logic.{_⊎_, inl, inr, ⊎-elim}
 use mathlib.Core.Bool.{Bool, true, false, cond}
@@ -12,19 +12,19 @@ use Rattle.refusals.specs.Lines.{NumberOfFirst, NoneApplies}
 use Rattle.csv_grammar.specs.declared.Answer.{Answer}
 use Rattle.csv_grammar.specs.declared.Answer.the-variants.{Counts, Refused}
 use Rattle.csv_grammar.specs.Grammar as G
-use Rattle.csv_grammar.specs.Table.{isBlank, skips, addLine, addLines, tableOf, withBytes, columnsOf, entry, Even}
+use Rattle.csv_grammar.specs.Table.{isBlank, addLine, addLines, tableOf, withBytes, columnsOf, Even}
 use Rattle.csv_grammar.specs.Places.{noSpan}
 use Rattle.csv_grammar.specs.Faults.{NotCsvAt, RaggedAt, TooManyAt, faultLines, numberOf, Reads}
 use Rattle.csv_grammar.specs.GrammarLaws.{GrammarLaws}
 use Rattle.csv_grammar.proofs.Automaton.{Kind, Plain, Comma, Quote, Cr, Lf, Control, Mode, Fresh, Bare, Quoted, Closed, Return, Dead, kindOf, actOf, readOf}
-use Rattle.csv_grammar.proofs.Letters.{Told, told, text-data, split}
+use Rattle.csv_grammar.proofs.Letters.{Told, told, text-data}
 use Rattle.csv_grammar.proofs.Division.{Division, stepBy, step, run, begin, lastLine, Ends, run-append, complete, unique}
 use Rattle.csv_grammar.proofs.Sound.{no-ends-dead, okay, sound, dead-run, barred, quote-ends, lf-ends, breaks-off-only}
 use Rattle.csv_grammar.proofs.Faults.{Fault, Right, Before, Faulty, fault-11, fault-12, fault-13, faulty}
 use Rattle.csv_grammar.proofs.Verdict.{right, first}
 use Rattle.csv_grammar.proofs.Even.{even}
 use Rattle.csv_grammar.proofs.EvenAccepted.{even-accepted}
-use Rattle.csv_grammar.proofs.Places.{table-stands, entry-stands}
+use Rattle.csv_grammar.proofs.Places.{table-stands, entry-field, entry-stands}
 
 -- ---- what the automaton answers is what a reading answers
 
@@ -219,36 +219,6 @@ from-0 : {A : Type 0} (none : A) (above below : List (List A)) (left right : Lis
     getD (getD (above ++ ((left ++ (x ∷ right)) ∷ below)) (length above) []) (length left) none ≡ x
 from-0 none above below left right x =
     ap (λ (r : List _). getD r (length left) none) (getD-append-seam above (left ++ (x ∷ right)) below []) ∙ getD-append-seam left x right none
-
--- ---- what stands in a table is a field
-
-pub empty-field : G.Field []
-empty-field = G.Field.non-escaped G.NonEscaped.none
-
-line-field : {s : List ℕ} {fs : List (List ℕ)} → G.Line s fs → (k : ℕ) → G.Field (getD fs k [])
-line-field (G.Line.one h) zero = h
-line-field (G.Line.one h) (suc k) = empty-field
-line-field (G.Line.more h q) zero = h
-line-field (G.Line.more h q) (suc k) = line-field q k
-
-Fielded : List (List (List ℕ)) → Type 0
-Fielded rows = (r k : ℕ) → G.Field (entry rows r k)
-
-fielded-last : (rows : List (List (List ℕ))) {s : List ℕ} {l : List (List ℕ)} → Fielded rows → G.Line s l → Fielded (rows ++ (l ∷ []))
-unfolding Fielded
-fielded-last [] h q zero k = line-field q k
-fielded-last [] h q (suc r) k = empty-field
-fielded-last (x ∷ rows) h q zero k = h zero k
-fielded-last (x ∷ rows) h q (suc r) k = fielded-last rows (λ (n m : ℕ). h (suc n) m) q r k
-
-fielded-text : {t : List ℕ} {ls : List (List (List ℕ))} {l : List (List ℕ)} → G.Text t ls l → (rows : List (List (List ℕ))) → Fielded rows →
-    Fielded (cond (isBlank l) (addLines rows ls) (addLines rows ls ++ (l ∷ [])))
-fielded-text (G.Text.last {l = l} q) rows h = split Fielded (isBlank l) (λ y. h) (λ z. fielded-last rows h q)
-fielded-text (G.Text.next {fs = fs} q p) rows h = fielded-text p (addLine rows fs) (split Fielded (skips rows fs) (λ y. h) (λ z. fielded-last rows h q))
-
-pub entry-field : {t : List ℕ} {ls : List (List (List ℕ))} {l : List (List ℕ)} → G.Text t ls l → (row column : ℕ) → G.Field (entry (tableOf ls l) row column)
-unfolding Fielded
-entry-field p = fielded-text p [] (λ r k. empty-field)
 
 pub grammar-laws : GrammarLaws
 grammar-laws =

@@ -41,18 +41,22 @@ line-end (G.Line.more {f = f} h (G.Line.more {f = g} {s = s} {fs = fs} k q)) p =
 
 -- ---- rows of places, and the fields that stand there
 
+pub empty-field : G.Field []
+empty-field = G.Field.non-escaped G.NonEscaped.none
+
 nothing-stands : (t : List ℕ) → StandsAt t noSpan []
 nothing-stands t = record { before = []; after = t; text = refl; starts = refl; ends = refl }
 
-row-entry : (t : List ℕ) (ss : List Span) (fs : List (List ℕ)) → RowStands t ss fs → (k : ℕ) → StandsAt t (getD ss k noSpan) (getD fs k [])
-row-entry t [] [] w k = nothing-stands t
+-- what stands in a row, or a table, at any place of it: a field of the grammar, the one of no bytes where there is none
+row-entry : (t : List ℕ) (ss : List Span) (fs : List (List ℕ)) → RowStands t ss fs → (k : ℕ) → G.Field (getD fs k []) × StandsAt t (getD ss k noSpan) (getD fs k [])
+row-entry t [] [] w k = (empty-field, nothing-stands t)
 row-entry t [] (f ∷ fs) w k = absurd w
 row-entry t (s ∷ ss) [] w k = absurd w
-row-entry t (s ∷ ss) (f ∷ fs) w zero = w .1
+row-entry t (s ∷ ss) (f ∷ fs) w zero = (w .0, w .1)
 row-entry t (s ∷ ss) (f ∷ fs) w (suc k) = row-entry t ss fs (w .2) k
 
-rows-entry : (t : List ℕ) (ss : List (List Span)) (rows : List (List (List ℕ))) → RowsStand t ss rows → (r k : ℕ) → StandsAt t (spanAt ss r k) (entry rows r k)
-rows-entry t [] [] w r k = nothing-stands t
+rows-entry : (t : List ℕ) (ss : List (List Span)) (rows : List (List (List ℕ))) → RowsStand t ss rows → (r k : ℕ) → G.Field (entry rows r k) × StandsAt t (spanAt ss r k) (entry rows r k)
+rows-entry t [] [] w r k = (empty-field, nothing-stands t)
 rows-entry t [] (f ∷ fs) w r k = absurd w
 rows-entry t (s ∷ ss) [] w r k = absurd w
 rows-entry t (s ∷ ss) (f ∷ fs) w zero k = row-entry t s f (w .0) k
@@ -93,17 +97,15 @@ table-stands {t} {ls} {l} p =
     let w = text-stands t p [] 0 refl (omega arith) in
     subst⁻¹ (RowsStand t (spansOf ls l)) (w .1) (w .2)
 
-pub entry-stands : {t : List ℕ} {ls : List (List (List ℕ))} {l : List (List ℕ)} → G.Text t ls l → (row column : ℕ) → StandsAt t (spanAt (spansOf ls l) row column) (entry (tableOf ls l) row column)
-entry-stands {t} {ls} {l} p row column =
-    let w = text-stands t p [] 0 refl (omega arith) in
-    subst (λ (table : List (List (List ℕ))). StandsAt t (spanAt (spansOf ls l) row column) (entry table row column)) (sym (w .1)) (rows-entry t (spansOf ls l) (w .0) (w .2) row column)
+module _ {t : List ℕ} {ls : List (List (List ℕ))} {l : List (List ℕ)} (p : G.Text t ls l) (row column : ℕ) where
+  pub entry-field : G.Field (entry (tableOf ls l) row column)
+  entry-field = rows-entry t (spansOf ls l) (tableOf ls l) (table-stands p) row column .0
 
--- the part at a place where a field stands is the field, and lies within the text
+  pub entry-stands : StandsAt t (spanAt (spansOf ls l) row column) (entry (tableOf ls l) row column)
+  entry-stands = rows-entry t (spansOf ls l) (tableOf ls l) (table-stands p) row column .1
+
+-- the part at a place where a field stands is the field
 pub stands-bytes : {t f : List ℕ} {s : Span} → StandsAt t s f → bytesAt s t ≡ f
 stands-bytes {t} {f} {s} w =
     let n : s .end - s .start ≡ length f = omega (arith, w .ends) in
     rw n (ap (take (length f)) (ap (λ (k : ℕ). drop k t) (sym (w .starts)) ∙ (ap (drop (length (w .before))) (w .text) ∙ drop-append-seam (w .before) (f ++ w .after))) ∙ take-append-seam f (w .after))
-
-pub stands-within : {t f : List ℕ} {s : Span} → StandsAt t s f → (s .start ≤ s .end) × (s .end ≤ length t)
-stands-within {t} {f} {s} w =
-    (omega (arith, w .ends), omega (arith, w .ends, w .starts, ap length (w .text), length-append (w .before) (f ++ w .after), length-append f (w .after)))

@@ -18,7 +18,7 @@ use Rattle.csv_grammar.specs.Faults.{Ragged}
 use Rattle.csv_grammar.proofs.Faults.{Fault, barred, unfinished, uneven, uneven-open, uneven-end, wide, Right, Before}
 use Rattle.csv_grammar.proofs.Automaton.{Counter, Mode, Fresh, Bare, Quoted, Closed, Return, Dead, Act, Letter, Inside, Close, Separate, End, Next, Refuse, kindOf, actOf, lastAct, blankLine, counted, moved, faultOf, endOf, readFrom, readOf, start}
 use Rattle.csv_grammar.proofs.Letters.{told, split}
-use Rattle.csv_grammar.proofs.Division.{Division, at, stepBy, step, run, begin, lastLine, Ends, run-append, complete}
+use Rattle.csv_grammar.proofs.Division.{Division, stepBy, step, run, begin, lastLine, Ends, run-append, complete}
 use Rattle.csv_grammar.proofs.Sound as S
 use Rattle.csv_grammar.proofs.Sound.{Okay, okay, okay-step, sound, begins, breaks-off-only}
 use Rattle.csv_grammar.proofs.Counted.{counterOf, Tells, tells, length-last, counts, stop-counts, okay-blank}

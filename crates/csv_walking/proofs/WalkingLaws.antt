@@ -13,9 +13,9 @@ use Rattle.csv_grammar.specs.Table.{tableOf, columnsOf, entry, HaveFields}
 use Rattle.csv_grammar.specs.Faults.{numberOf, Reads}
 use Rattle.csv_grammar.specs.Places.{spansOf, noSpan, spanAt, bytesAt, StandsAt, RowStands, RowsStand}
 use Rattle.csv_grammar.proofs.Automaton.{readOf}
-use Rattle.csv_grammar.proofs.Places.{table-stands, entry-stands, stands-bytes}
+use Rattle.csv_grammar.proofs.Places.{empty-field, table-stands, entry-field, entry-stands, stands-bytes}
 use Rattle.csv_grammar.proofs.Division.{unique}
-use Rattle.csv_grammar.proofs.GrammarLaws.{reads, one-answer, entry-field, empty-field, grammar-laws}
+use Rattle.csv_grammar.proofs.GrammarLaws.{reads, one-answer, grammar-laws}
 use Rattle.csv_walking.specs.Parts.{PartBy, Part, FieldAt}
 use Rattle.csv_walking.specs.WalkingLaws.{WalkingLaws}
 use Rattle.csv_walking.proofs.Walking.{walks, visited}

@@ -21,13 +21,10 @@ returns c = let v = c .before .before .loop .inv in record { runs = v .0; after 
 
 -- how far it runs after the first byte of a turn, and after the second
 first : (c : tie.Else1 Inv-loop μ-loop) → let l = c .before .before in let g = l .before in RunsTo (g .args .part .now) (g .args .from) (l .loop .i + 1)
-first c = let l = c .before .before in let g = l .before in runs-more (g .args .part .now) (g .args .from) (l .loop .i) (g .pre .1) (l .loop .inv) (c .if1 .left)
+first c = let l = c .before .before in runs-more _ _ _ (l .before .pre .1) (l .loop .inv) (c .if1 .left)
 
 second : (c : tie.Else2 Inv-loop μ-loop) → let l = c .before .before .before .before in let g = l .before in RunsTo (g .args .part .now) (g .args .from) (l .loop .i + 1 + 1)
-second c =
-    let l = c .before .before .before .before in
-    let g = l .before in
-    runs-more (g .args .part .now) (g .args .from) (l .loop .i + 1) (g .pre .1) (first (c .before .before)) (c .if2 .left)
+second c = let l = c .before .before .before .before in runs-more _ _ _ (l .before .pre .1) (first (c .before .before)) (c .if2 .left)
 
 add-j : tie.Need-add-j Inv-loop μ-loop
 add-j c = let h = first c .2 in omega arith

@@ -21,21 +21,18 @@ loop-holds c = (refl, c .before .pre .0)
 returns : tie.Need-returns Inv-loop μ-loop
 returns c =
     let l = c .before .before .before in
-    let g = l .before .before in
-    runs-end (g .args .text .now) (g .args .from) (l .loop .i) (l .loop .inv) (sym (c .before .is-textdata .ensures) ∙ not-true _ (c .if1 .taken))
+    runs-end _ _ _ (l .loop .inv) (sym (c .before .is-textdata .ensures) ∙ not-true _ (c .if1 .taken))
 
 -- how far it runs after the first byte of a turn, and after the second
 first : (c : tie.Else1 Inv-loop μ-loop) → let l = c .before .before .before in let g = l .before .before in RunsTo (g .args .text .now) (g .args .from) (l .loop .i + 1)
 first c =
     let l = c .before .before .before in
-    let g = l .before .before in
-    runs-more (g .args .text .now) (g .args .from) (l .loop .i) (g .pre .1) (l .loop .inv) (sym (c .before .is-textdata .ensures) ∙ not-false _ (c .if1 .left))
+    runs-more _ _ _ (l .before .before .pre .1) (l .loop .inv) (sym (c .before .is-textdata .ensures) ∙ not-false _ (c .if1 .left))
 
 second : (c : tie.Else2 Inv-loop μ-loop) → let l = c .before .before .before .before .before .before in let g = l .before .before in RunsTo (g .args .text .now) (g .args .from) (l .loop .i + 1 + 1)
 second c =
     let l = c .before .before .before .before .before .before in
-    let g = l .before .before in
-    runs-more (g .args .text .now) (g .args .from) (l .loop .i + 1) (g .pre .1) (first (c .before .before .before)) (sym (c .before .is-textdata2 .ensures) ∙ not-false _ (c .if2 .left))
+    runs-more _ _ _ (l .before .before .pre .1) (first (c .before .before .before)) (sym (c .before .is-textdata2 .ensures) ∙ not-false _ (c .if2 .left))
 
 add-j : tie.Need-add-j Inv-loop μ-loop
 add-j c = let h = first c .1 in omega arith
@@ -44,10 +41,7 @@ shared-slice-read-is-textdata-2 : tie.Need-shared-slice-read-is-textdata-2 Inv-l
 shared-slice-read-is-textdata-2 c = first (c .before) .1
 
 returns-2 : tie.Need-returns-2 Inv-loop μ-loop
-returns-2 c =
-    let l = c .before .before .before .before .before .before in
-    let g = l .before .before in
-    runs-end (g .args .text .now) (g .args .from) (l .loop .i + 1) (first (c .before .before .before)) (sym (c .before .is-textdata2 .ensures) ∙ not-true _ (c .if2 .taken))
+returns-2 c = runs-end _ _ _ (first (c .before .before .before)) (sym (c .before .is-textdata2 .ensures) ∙ not-true _ (c .if2 .taken))
 
 add-i : tie.Need-add-i Inv-loop μ-loop
 add-i c = let h = second c .1 in omega arith
