@@ -16,7 +16,7 @@ unfoldable pub doubled : List ℕ → List ℕ
 doubled [] = []
 doubled (b ∷ c) = cond (eqb b 34) (34 ∷ (34 ∷ doubled c)) (b ∷ doubled c)
 
--- bytes from 32 on but 127, CR and LF
+-- CR, LF, and bytes from 32 on but for 127
 abbrev pub Writable : List ℕ → Type 0
 Writable [] = Unit
 Writable (b ∷ c) = (((32 ≤ b) × (b ≡ 127 → ⊥)) ⊎ ((b ≡ 13) ⊎ (b ≡ 10))) × Writable c

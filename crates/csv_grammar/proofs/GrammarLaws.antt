@@ -15,7 +15,7 @@ use Rattle.csv_grammar.specs.Grammar as G
 use Rattle.csv_grammar.specs.Table.{isBlank, addLine, addLines, tableOf, withBytes, columnsOf, Even}
 use Rattle.csv_grammar.specs.Places.{noSpan}
 use Rattle.csv_grammar.specs.Faults.{NotCsvAt, RaggedAt, TooManyAt, faultLines, numberOf, Reads}
-use Rattle.csv_grammar.specs.GrammarLaws.{GrammarLaws}
+use Rattle.csv_grammar.specs.GrammarLaws.{lineOf, textOf, AreFields, AreLines, Ordinary, GrammarLaws}
 use Rattle.csv_grammar.proofs.Automaton.{Kind, Plain, Comma, Quote, Cr, Lf, Control, Mode, Fresh, Bare, Quoted, Closed, Return, Dead, kindOf, actOf, readOf}
 use Rattle.csv_grammar.proofs.Letters.{Told, told, text-data}
 use Rattle.csv_grammar.proofs.Division.{Division, stepBy, step, run, begin, lastLine, Ends, run-append, complete, unique}
@@ -122,6 +122,36 @@ even-rows : (t : List ℕ) (a : Answer) → Reads t a → numberOf a ≡ 0 → (
 even-rows t (Counts r c) h e ls l p = even p (sym (is-read t (Counts r c) h))
 even-rows t (Refused n p) h e ls l x = absurd (h .2 e)
 
+-- ---- fields joined
+
+line-joined : {s : List ℕ} {fs : List (List ℕ)} → G.Line s fs → (s ≡ lineOf fs) × AreFields fs
+line-joined (G.Line.one h) = (refl, h)
+line-joined (G.Line.more h (G.Line.one k)) = (refl, (h, k))
+line-joined (G.Line.more {f = f} h (G.Line.more k q)) = let r = line-joined (G.Line.more k q) in (ap (λ (x : List ℕ). f ++ (44 ∷ x)) (r .0), (h, r .1))
+
+text-joined : {t : List ℕ} {ls : List (List (List ℕ))} {l : List (List ℕ)} → G.Text t ls l → (t ≡ textOf ls l) × AreLines ls l
+text-joined (G.Text.last q) = line-joined q
+text-joined (G.Text.next q p) =
+    let a = line-joined q in
+    let b = text-joined p in
+    (λ j. a .0 j ++ (13 ∷ (10 ∷ b .0 j)), (a .1, b .1))
+
+joined-line : (fs : List (List ℕ)) → AreFields fs → G.Line (lineOf fs) fs
+joined-line [] w = absurd w
+joined-line (f ∷ []) w = G.Line.one w
+joined-line (f ∷ (g ∷ fs)) w = G.Line.more (w .0) (joined-line (g ∷ fs) (w .1))
+
+joined-text : (ls : List (List (List ℕ))) (l : List (List ℕ)) → AreLines ls l → G.Text (textOf ls l) ls l
+joined-text [] l w = G.Text.last (joined-line l w)
+joined-text (fs ∷ ls) l w = G.Text.next (joined-line fs (w .0)) (joined-text ls l (w .1))
+
+ordinary : (s : List ℕ) → Ordinary s → G.NonEscaped s × G.InQuotes s
+ordinary [] w = (G.NonEscaped.none, G.InQuotes.none)
+ordinary (b ∷ s) w =
+    let h = text-data b (w .0 .0) (w .0 .1) (w .0 .2) (w .0 .3) in
+    let r = ordinary s (w .1) in
+    (G.NonEscaped.textdata h (r .0), G.InQuotes.textdata h (r .1))
+
 -- ---- bytes that stand in no text
 
 control-dead : (d : Division) (b : ℕ) (m : Mode) → stepBy d b (actOf m Control) .mode ≡ Dead
@@ -223,11 +253,10 @@ from-0 none above below left right x =
 pub grammar-laws : GrammarLaws
 grammar-laws =
     record {
+      text-joined = λ t ls l p. text-joined p;
+      joined-text = joined-text;
       one-division = λ t ls ms l k p q. unique p q;
-      ordinary = λ b h q c d. let x = text-data b h q c d in (
-        G.Field.non-escaped (G.NonEscaped.textdata x G.NonEscaped.none),
-        G.Field.escaped (G.InQuotes.textdata x G.InQuotes.none),
-      );
+      ordinary = λ s w. let r = ordinary s w in (G.Field.non-escaped (r .0), G.Field.escaped (r .1));
       no-control = no-control;
       blank-line = λ s fs q. blank-line q;
       rows-are-lines = rows-added [];

@@ -13,11 +13,39 @@ use Rattle.csv_grammar.specs.Table.{isBlank, tableOf, withBytes, entry, 
 use Rattle.csv_grammar.specs.Places.{spansOf, spanAt, StandsAt, RowsStand}
 use Rattle.csv_grammar.specs.Faults.{RaggedAt, TooManyAt, faultLines, numberOf, Reads}
 
+-- fields with commas between, and lines with CR LF between
+abbrev pub lineOf : (fields : List (List ℕ)) → List ℕ
+lineOf [] = []
+lineOf (f ∷ []) = f
+lineOf (f ∷ (g ∷ fs)) = f ++ (44 ∷ lineOf (g ∷ fs))
+
+abbrev pub textOf : (lines : List (List (List ℕ))) (last : List (List ℕ)) → List ℕ
+textOf [] l = lineOf l
+textOf (fs ∷ ls) l = lineOf fs ++ (13 ∷ (10 ∷ textOf ls l))
+
+-- one field or more, each of the grammar; and lines of such
+abbrev pub AreFields : List (List ℕ) → Type 0
+AreFields [] = ⊥
+AreFields (f ∷ []) = Field f
+AreFields (f ∷ (g ∷ fs)) = Field f × AreFields (g ∷ fs)
+
+abbrev pub AreLines : (lines : List (List (List ℕ))) (last : List (List ℕ)) → Type 0
+AreLines [] l = AreFields l
+AreLines (fs ∷ ls) l = AreFields fs × AreLines ls l
+
+-- bytes from 32 on but for the quote, the comma and 127
+abbrev pub Ordinary : List ℕ → Type 0
+Ordinary [] = Unit
+Ordinary (b ∷ s) = ((32 ≤ b) × (b ≡ 34 → ⊥) × (b ≡ 44 → ⊥) × (b ≡ 127 → ⊥)) × Ordinary s
+
 pub record GrammarLaws : Type 0 where
+  -- a text is its fields with commas and line ends between, and all such are texts
+  pub text-joined : (t : List ℕ) (ls : List (List (List ℕ))) (l : List (List ℕ)) → Text t ls l → (t ≡ textOf ls l) × AreLines ls l
+  pub joined-text : (ls : List (List (List ℕ))) (l : List (List ℕ)) → AreLines ls l → Text (textOf ls l) ls l
   -- "the division into fields is the only one"
   pub one-division : (t : List ℕ) (ls ms : List (List (List ℕ))) (l k : List (List ℕ)) → Text t ls l → Text t ms k → (ls ≡ ms) × (l ≡ k)
-  -- every byte that is no control byte, quote or comma is text, outside quotes and inside: "Bytes 128 to 255 count as ordinary text."
-  pub ordinary : (b : ℕ) → 32 ≤ b → (b ≡ 34 → ⊥) → (b ≡ 44 → ⊥) → (b ≡ 127 → ⊥) → Field (b ∷ []) × Field (34 ∷ b ∷ 34 ∷ [])
+  -- ordinary bytes, as many as one likes, are a field without quotes and with: "Bytes 128 to 255 count as ordinary text."
+  pub ordinary : (s : List ℕ) → Ordinary s → Field s × Field (34 ∷ (s ++ (34 ∷ [])))
   -- of the bytes below 32 only CR and LF stand in a text, and 127 does not, inside quotes either
   pub no-control : (s u : List ℕ) (b : ℕ) → IsText (s ++ (b ∷ u)) → (b < 32 → (b ≡ 13) ⊎ (b ≡ 10)) × (b ≡ 127 → ⊥)
   -- "a line of no bytes"
