@@ -161,16 +161,18 @@ impl Cipher {
         }
     }
 
-    /// Applies the keystream byte by byte, with a step after the last byte of each word.
+    /// Applies the keystream byte by byte; a step gives each word and, where the word is used up, the
+    /// registers to go on from.
     fn run(&self, state: &mut State, source: &[u8], target: &mut [u8]) {
         let mut registers = registers(state);
         let mut position = state[POSITION];
+        let (mut next, mut word) = registers.step(&self.tables, Step::Ordinary);
         for (written, byte) in target.iter_mut().zip(source) {
-            let word = registers.keystream_word().to_le_bytes();
-            *written = byte ^ word[(position % 8) as usize];
+            *written = byte ^ word.to_le_bytes()[(position % 8) as usize];
             position += 1;
             if position % 8 == 0 {
-                registers = registers.step(&self.tables, Step::Ordinary);
+                registers = next;
+                (next, word) = registers.step(&self.tables, Step::Ordinary);
             }
         }
         *state = state_of(&registers, state[SIZE_MARK], position);

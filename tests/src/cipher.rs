@@ -81,8 +81,8 @@ impl Registers {
         }
     }
 
-    /// One step forward.
-    pub fn step(&self, tables: &Tables, kind: Step) -> Registers {
+    /// One step forward: the new registers, and the keystream word of those it left.
+    pub fn step(&self, tables: &Tables, kind: Step) -> (Registers, u64) {
         let s = &self.cells;
         let mut last = tables.times_alpha(s[0]) ^ tables.over_alpha(s[11]) ^ s[13];
         if kind == Step::Initialisation {
@@ -90,11 +90,24 @@ impl Registers {
         }
         let mut cells = [last; 16];
         cells[..15].copy_from_slice(&s[1..]);
-        Registers {
+        let registers = Registers {
             cells,
             r1: self.r2.wrapping_add(s[13]),
             r2: tables.t(self.r1),
-        }
+        };
+        (registers, self.keystream_word())
+    }
+
+    /// This many steps forward: the registers after them, and the words that they handed over.
+    pub fn steps(&self, tables: &Tables, kind: Step, steps: u64) -> (Registers, Vec<u64>) {
+        let mut registers = *self;
+        let words = (0..steps).map(|_| {
+            let (next, word) = registers.step(tables, kind);
+            registers = next;
+            word
+        });
+        let words = words.collect();
+        (registers, words)
     }
 
     /// One step back: the registers from which a step of this kind leads to these.
@@ -117,7 +130,9 @@ impl Registers {
 
     /// The registers this many ordinary steps on.
     pub fn forward(&self, tables: &Tables, steps: u64) -> Registers {
-        (0..steps).fold(*self, |registers, _| registers.step(tables, Step::Ordinary))
+        (0..steps).fold(*self, |registers, _| {
+            registers.step(tables, Step::Ordinary).0
+        })
     }
 
     /// The registers this many ordinary steps back.
@@ -129,11 +144,8 @@ impl Registers {
 
     /// From a loading to S_0: 32 steps of initialisation and an ordinary one.
     pub fn initialise(&self, tables: &Tables) -> Registers {
-        (0..32)
-            .fold(*self, |registers, _| {
-                registers.step(tables, Step::Initialisation)
-            })
-            .step(tables, Step::Ordinary)
+        let (registers, _) = self.steps(tables, Step::Initialisation, 32);
+        registers.step(tables, Step::Ordinary).0
     }
 
     /// From S_0 back to the loading.

@@ -1,7 +1,9 @@
-//! The lists of edges that the programs `edges` and `checks` print. Proved programs print the same
-//! lists.
+//! The lists that the programs `edges`, `checks` and `step_words` print. Proved programs print the
+//! same lists.
 
 use crate::calls::{Cipher, State, BLANK, LIMIT, POSITION, R1};
+use crate::cipher::{Registers, Step};
+use crate::field::Tables;
 use crate::vectors::hex;
 use std::fmt::Write;
 
@@ -20,6 +22,11 @@ pub fn checks(cipher: &Cipher) -> String {
     for_both_sizes(|key| checks_of(cipher, key))
 }
 
+/// The list of `step_words`, for both sizes.
+pub fn step_words(tables: &Tables) -> String {
+    for_both_sizes(|key| step_words_of(tables, key))
+}
+
 /// Bytes from 1 on.
 fn key(len: u8) -> Vec<u8> {
     (1..=len).collect()
@@ -27,6 +34,13 @@ fn key(len: u8) -> Vec<u8> {
 
 fn iv() -> Vec<u8> {
     (101..133).collect()
+}
+
+/// The IV with its last bit changed.
+fn another_iv() -> Vec<u8> {
+    let mut another = iv();
+    another[31] ^= 1;
+    another
 }
 
 /// The lines for a key of either size, each behind its bits.
@@ -105,11 +119,27 @@ fn checks_of(cipher: &Cipher, key: &[u8]) -> Vec<String> {
         "check at 8 with bit 0 of r1 changed: {}",
         check(&changed, &iv())
     ));
-    let mut another = iv();
-    another[31] ^= 1;
     lines.push(format!(
         "check at 8 with another IV: {}",
-        check(&at(cipher, key, 8), &another)
+        check(&at(cipher, key, 8), &another_iv())
     ));
+    lines
+}
+
+/// The words that the 32 steps of initialisation hand over from a loading on, and nine ordinary
+/// steps after them: of two IVs.
+fn step_words_of(tables: &Tables, key: &[u8]) -> Vec<String> {
+    let line = |name: &str, words: Vec<u64>| -> String {
+        let words: String = words.iter().map(|word| format!(" {word:016x}")).collect();
+        format!("{name}:{words}")
+    };
+    let mut lines = Vec::new();
+    for iv in [iv(), another_iv()] {
+        let loading = Registers::load(key, &iv);
+        let (registers, words) = loading.steps(tables, Step::Initialisation, 32);
+        lines.push(line("initialisation", words));
+        let (_, words) = registers.steps(tables, Step::Ordinary, 9);
+        lines.push(line("ordinary", words));
+    }
     lines
 }

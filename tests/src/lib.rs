@@ -8,7 +8,7 @@
 //! - [`kalyna`]: the block cipher that T's tables and matrix come from, to test them;
 //! - [`calls`]: the five calls with their refusals, and what the cipher program must write;
 //! - [`vectors`]: the published vectors, and the list that the program `vectors` prints;
-//! - [`edges`]: the lists of edges that the programs `edges` and `checks` print;
+//! - [`edges`]: the lists that the programs `edges`, `checks` and `step_words` print;
 //! - [`grammar`]: the grammar of order files, and what a text is by it, for short texts;
 //! - [`csv`]: the table of an order file or its first fault, by the definitions and in one pass;
 //! - [`random`]: the seeded generator that makes the tests' inputs.

@@ -64,7 +64,7 @@ fn run_strumok(tables: &Tables, looked_up: &RefCell<LookedUp>) {
         let mut registers = Registers::load(&vector.key, &vector.iv);
         let mut step = |kind| {
             looked_up.borrow_mut().note(registers.r1);
-            registers = registers.step(tables, kind);
+            registers = registers.step(tables, kind).0;
             registers.keystream_word()
         };
         for _ in 0..32 {

@@ -1,6 +1,6 @@
 //! The published vectors, run with the other implementation and with the proved library; the
 //! worked rows and the tables of the other implementation; and the lists of the programs
-//! `vectors`, `edges` and `checks`, compared with those of the proved programs.
+//! `vectors`, `edges`, `checks` and `step_words`, compared with those of the proved programs.
 
 use std::path::Path;
 use std::process::Command;
@@ -64,13 +64,14 @@ fn worked_rows() {
     // Row 8: the loading of zeros, 256.
     let loading = Registers::load(&[0; 32], &[0; 32]);
     assert_eq!(loading, loading_with_ones(&[15, 13, 10, 7, 6]));
-    // Rows 9 and 10: one step of either kind from there.
-    let initial = loading.step(&tables, Step::Initialisation);
+    // Rows 9 and 10: one step of either kind from there. The word handed over is that of the
+    // loading, whose s15 is all ones and whose r1, r2 and s0 are 0.
+    let (initial, word) = loading.step(&tables, Step::Initialisation);
     assert_eq!((initial.r1, initial.r2), (ONES, T_OF_ZERO));
-    assert_eq!(initial.cells[15], 0);
-    let ordinary = loading.step(&tables, Step::Ordinary);
+    assert_eq!((initial.cells[15], word), (0, ONES));
+    let (ordinary, word) = loading.step(&tables, Step::Ordinary);
     assert_eq!((ordinary.r1, ordinary.r2), (ONES, T_OF_ZERO));
-    assert_eq!(ordinary.cells[15], ONES);
+    assert_eq!((ordinary.cells[15], word), (ONES, ONES));
     // Row 11: two pairs of key and IV, 512, that load alike. Word 7 of the key and word 3 of the
     // IV come first, so that the last bytes of K4, IV3 and IV1 are bytes 31, 7 and 23.
     let (mut key, mut iv) = ([0; 64], [0; 32]);
@@ -138,4 +139,5 @@ fn the_proved_programs_print_the_same_lists() {
     prints_the_same_list(env!("CARGO_BIN_EXE_vectors"), "vectors", 8);
     prints_the_same_list(env!("CARGO_BIN_EXE_edges"), "edges", 6 + 2 * 10);
     prints_the_same_list(env!("CARGO_BIN_EXE_checks"), "checks", 2 * 7);
+    prints_the_same_list(env!("CARGO_BIN_EXE_step_words"), "step_words", 2 * 2 * 2);
 }

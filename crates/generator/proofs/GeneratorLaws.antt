@@ -10,12 +10,13 @@ use Rattle.substitution.specs.Substitution.{columnTables, substitutionTables, m
 use Rattle.substitution.proofs.SubstitutionLaws.{substitution-laws}
 use Rattle.generator.specs.declared.State.{State}
 use Rattle.generator.specs.declared.Kind.{Kind}
-use Rattle.generator.specs.Registers.{Registers, nextWith, previousWith, next, previous, walked}
-use Rattle.generator.specs.Functions.{nextBy, previousBy, nextIn}
+use Rattle.generator.specs.declared.Stepped.{Stepped}
+use Rattle.generator.specs.Registers.{Registers, registersOf, withRegisters, nextWith, previousWith, next, previous, keystreamWord, walked}
+use Rattle.generator.specs.Functions.{nextIn, stepIn, previousBy}
 use Rattle.generator.specs.GeneratorLaws.{UndoneBy, GeneratorLaws}
 use Rattle.generator.proofs.Round as Round
 use Rattle.generator.proofs.Round.{Inverses}
-use Rattle.generator.proofs.Iterate.{iterate-add, iterate-undone, undone-one-to-one}
+use Rattle.generator.proofs.Iterate.{iterate-add, iterate-undone, undone-one-to-one, words-along}
 
 standard : Inverses substitute substituteInverse alphaTimes alphaInverseTimes
 standard =
@@ -44,16 +45,21 @@ alpha-path = fun-ext (alpha-laws .alpha-by-table)
 inverse-path : alphaInverseTimesWith (at alphaInverseTable) ≡ alphaInverseTimes
 inverse-path = fun-ext (alpha-laws .inverse-by-table)
 
-next-by-tables : nextBy substitutionTables alphaTable alphaInverseTable ≡ next
-next-by-tables =
-    ap (λ (t : ℕ → ℕ). nextWith t (alphaTimesWith (at alphaTable)) (alphaInverseTimesWith (at alphaInverseTable))) table-path
+-- the eight tables of T, that of α and that of its inverse are found in their places among the ten
+in-places : nextIn stepTables ≡ nextWith (lookUp substitutionTables) (alphaTimesWith (at alphaTable)) (alphaInverseTimesWith (at alphaInverseTable))
+unfolding lookUp columnTables
+in-places = refl
+
+next-in-tables : nextIn stepTables ≡ next
+next-in-tables =
+    in-places
+    ∙ ap (λ (t : ℕ → ℕ). nextWith t (alphaTimesWith (at alphaTable)) (alphaInverseTimesWith (at alphaInverseTable))) table-path
     ∙ ap (λ (a : ℕ → ℕ). nextWith substitute a (alphaInverseTimesWith (at alphaInverseTable))) alpha-path
     ∙ ap (nextWith substitute alphaTimes) inverse-path
 
--- the eight tables of T, that of α and that of its inverse are found in their places among the ten
-in-places : nextIn stepTables ≡ nextBy substitutionTables alphaTable alphaInverseTable
-unfolding lookUp columnTables
-in-places = refl
+step-in-tables : (kind : Kind) (s : State) → _≡_ {A = Stepped} (stepIn stepTables kind s) (record { state = withRegisters s (next kind (registersOf s)); word = keystreamWord (registersOf s) })
+step-in-tables kind s =
+    ap (λ (f : Kind → Registers → Registers). record { state = withRegisters s (f kind (registersOf s)); word = keystreamWord (registersOf s) }) next-in-tables
 
 pub generator-laws : GeneratorLaws
 generator-laws =
@@ -64,10 +70,12 @@ generator-laws =
       forward-back = λ kind. iterate-undone (next-previous kind);
       undone-one-to-one = λ g f. undone-one-to-one;
       walks-compose = iterate-add;
-      next-in-tables = in-places ∙ next-by-tables;
+      next-in-tables = next-in-tables;
       previous-by-tables =
           ap (λ (t : ℕ → ℕ). previousWith t (alphaInverseTimesWith (at alphaInverseTable))) inverse-table-path
           ∙ ap (previousWith substituteInverse) inverse-path;
+      step-in-tables = step-in-tables;
+      words-along = λ kind. words-along (next kind) (step-in-tables kind);
     }
 
 -- ---- walks by the tables of T, α and their inverses

@@ -1,9 +1,13 @@
--- Walks of n steps: they compose, and where g undoes f the walks undo each other and are one-to-one.
-use mathlib.Core.Path.{_≡_, refl, sym, ap, _∙_}
+-- Walks of n steps: they compose, and where g undoes f the walks undo each other and are one-to-one; the words that they hand over.
+use mathlib.Core.Path.{_≡_, refl, sym, ap, fun-ext, _∙_}
+use mathlib.Core.List.{List, _∷_}
 use Prim.Native.Nat.{ℕ, zero, suc, _+_}
 use native.Mathlib.Nat.{add-zero, add-suc}
+use Rattle.galois.specs.Words.{tabulate}
 use Rattle.generator.specs.declared.State.{State}
-use Rattle.generator.specs.Registers.{Registers, EighteenWords, registersOf, withRegisters, iterate, walked}
+use Rattle.generator.specs.declared.Stepped.{Stepped}
+use Rattle.generator.specs.Registers.{Registers, EighteenWords, registersOf, withRegisters, keystreamWord, iterate, walked}
+use Rattle.generator.specs.Functions.{wordsAlong}
 use Rattle.generator.specs.GeneratorLaws.{UndoneBy, OneToOne}
 
 pub iterate-add : {A : Type 0} (f : A → A) (m n : ℕ) (x : A) → iterate f (m + n) x ≡ iterate f n (iterate f m x)
@@ -42,3 +46,14 @@ module _ (f : Registers → Registers) (s : State) where
   -- k steps after i are j
   pub walked-on : (i k j : ℕ) {t u : State} → t ≡ walked f i s → u ≡ walked f k t → i + k ≡ j → u ≡ walked f j s
   walked-on i k j et eu e = eu ∙ ap (walked f k) et ∙ ap (withRegisters s) (sym (iterate-add f i k (registersOf s))) ∙ ap (λ (n : ℕ). walked f n s) e
+
+-- ---- the words of a walk
+
+module _ (f : Registers → Registers) {step : State → Stepped}
+    (h : (s : State) → step s ≡ record { state = withRegisters s (f (registersOf s)); word = keystreamWord (registersOf s) }) where
+  pub words-along : (n : ℕ) (s : State) → wordsAlong step n s ≡ tabulate n (λ (i : ℕ). keystreamWord (registersOf (walked f i s)))
+  words-along zero s = refl
+  words-along (suc n) s =
+      let r = registersOf s in
+      ap (λ (k : Stepped). k .word ∷ wordsAlong step n (k .state)) (h s)
+      ∙ ap (λ (l : List ℕ). keystreamWord r ∷ l) (words-along n (withRegisters s (f r)) ∙ ap (tabulate n) (fun-ext (λ i. ap keystreamWord (iterate-in f i r))))

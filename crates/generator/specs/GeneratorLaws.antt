@@ -2,12 +2,14 @@
 -- Each law is said once for both kinds of step, and of all registers: sixteen cells and two registers that hold any words.
 use mathlib.Core.Path.{_≡_}
 use Prim.Native.Nat.{ℕ, _+_}
+use Rattle.galois.specs.Words.{tabulate}
 use Rattle.galois.specs.Alpha.{alphaInverseTable}
 use Rattle.sboxes.specs.Sboxes.{piInverse}
 use Rattle.substitution.specs.Substitution.{matrixInverseTables, stepTables}
+use Rattle.generator.specs.declared.State.{State}
 use Rattle.generator.specs.declared.Kind.{Kind}
-use Rattle.generator.specs.Registers.{Registers, EighteenWords, next, previous, iterate}
-use Rattle.generator.specs.Functions.{previousBy, nextIn}
+use Rattle.generator.specs.Registers.{Registers, EighteenWords, registersOf, withRegisters, next, previous, keystreamWord, iterate, walked}
+use Rattle.generator.specs.Functions.{nextIn, stepIn, wordsAlong, previousBy}
 
 -- f keeps eighteen words such, and g undoes it there
 pub record UndoneBy (g f : Registers → Registers) : Type 0 where
@@ -32,3 +34,8 @@ pub record GeneratorLaws : Type 0 where
   -- with the tables of T, α and their inverses, the functions' steps are these
   pub next-in-tables : nextIn stepTables ≡ next
   pub previous-by-tables : previousBy matrixInverseTables piInverse alphaInverseTable ≡ previous
+  -- document 02, item 2: "the new state" and "the Z of the state it left", in a step of either kind
+  pub step-in-tables : (kind : Kind) (s : State) → stepIn stepTables kind s ≡ record { state = withRegisters s (next kind (registersOf s)); word = keystreamWord (registersOf s) }
+  -- so the words handed over along a walk of n steps are the keystream words of the states that it passes, in order
+  pub words-along :
+      (kind : Kind) (n : ℕ) (s : State) → wordsAlong (stepIn stepTables kind) n s ≡ tabulate n (λ (i : ℕ). keystreamWord (registersOf (walked (next kind) i s)))

@@ -2,7 +2,7 @@
 ghost use mathlib.Core.Path.{_≡_};
 ghost use mathlib.Core.List.{[], _∷_, _++_};
 ghost use lib.ListN.{drop, take};
-ghost use Rattle.generator.specs.Registers.{F, difference, mixed};
+ghost use Rattle.generator.specs.Registers.{F, difference, mixed, keystreamWord, registersOf};
 ghost use Rattle.substitution.specs.Substitution.{lookUp};
 ghost use Rattle.generator.specs.Functions.{feedbackIn, stepIn, stepBackBy};
 use galois::alpha_inverse_times_by_table;
@@ -28,7 +28,7 @@ pub enum Kind {
     Initial,
 }
 
-// The state after a step, and the keystream word of the state before it.
+// What a step forward answers with, ordinary or of initialisation: the new state, and the keystream word of the state that it left.
 pub struct Stepped {
     pub state: State,
     pub word: u64,
@@ -129,9 +129,17 @@ fn shift_out(c: [u64; 16], x: u64) -> [u64; 16]
     ]
 }
 
+// The keystream word of a state, F(s15, r1, r2) and s0 together.
+fn keystream_word(s: State) -> u64
+    ensures { λ r. ⌜ r ≡ keystreamWord (registersOf s) ⌝ }
+{
+    let c = s.cells;
+    filter(c[15], s.r1, s.r2) ^ c[0]
+}
+
 // ---- one step
 
-// One step by the tables that are lent: the state after it, and the keystream word of the state before it.
+// One step by the tables that are lent: the one step forward, of either kind. The word that it hands over is that of s.
 pub fn step(kind: Kind, s: State, tables: &[[u64; 256]; 10]) -> Stepped
     ensures { λ r. ⌜ r ≡ stepIn (now (tables .entry)) kind s ⌝ }
 {
@@ -141,15 +149,17 @@ pub fn step(kind: Kind, s: State, tables: &[[u64; 256]; 10]) -> Stepped
     let cells = shift_in(c, last);
     let r2 = substitute(s.r1, tables);
     let r1 = wrapping_add_u64(s.r2, c[13]);
+    let next = State {
+        cells: cells,
+        r1: r1,
+        r2: r2,
+        size: s.size,
+        position: s.position,
+    };
+    let word = keystream_word(s);
     Stepped {
-        state: State {
-            cells: cells,
-            r1: r1,
-            r2: r2,
-            size: s.size,
-            position: s.position,
-        },
-        word: f ^ c[0],
+        state: next,
+        word: word,
     }
 }
 

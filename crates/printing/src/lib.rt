@@ -35,6 +35,12 @@ fn word(b: &[u8]) {
     }
 }
 
+// A space and the 16 hexadecimal digits of a word.
+pub fn spaced_word(w: u64) {
+    text(b" ");
+    io::print_hex(STDOUT_FILENO, w, 16);
+}
+
 // The words of as many bytes as there are eights.
 pub fn words(b: &[u8]) {
     let mut i: usize = 0;

@@ -1,5 +1,5 @@
 -- Steps in a straight line, and lines followed by single steps.
-use mathlib.Core.Path.{_≡_, refl, ap}
+use mathlib.Core.Path.{_≡_, refl, ap, _∙_}
 use Prim.Native.Nat.{ℕ, _*_, _/_, _%_}
 use native.Mathlib.Omega.{arith}
 use Rattle.generator.specs.declared.State.{State}
@@ -7,9 +7,9 @@ use Rattle.generator.specs.declared.Stepped.{Stepped}
 use Rattle.generator.specs.Registers.{Registers, walked}
 use Rattle.generator.proofs.Iterate.{walked-on}
 
--- the state of a step
-pub stepped-state : {k : Stepped} {t : State} {word : ℕ} → k ≡ record { state = t; word = word } → k .state ≡ t
-stepped-state e = ap (λ (x : Stepped). x .state) e
+-- what is left of a step without its word is the new state
+pub stepped-on : {k : Stepped} {t u : State} {word : ℕ} → k ≡ record { state = t; word = word } → u ≡ k .state → u ≡ t
+stepped-on ek eu = eu ∙ ap (λ (x : Stepped). x .state) ek
 
 -- eight steps in a line
 pub eight-in-line : (f : Registers → Registers) (s : State) {a b c d e g h t : State} → a ≡ walked f 1 s → b ≡ walked f 1 a → c ≡ walked f 1 b → d ≡ walked f 1 c → e ≡ walked f 1 d → g ≡ walked f 1 e → h ≡ walked f 1 g → t ≡ walked f 1 h → t ≡ walked f 8 s

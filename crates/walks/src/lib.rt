@@ -6,8 +6,16 @@ ghost use Rattle.generator.specs.Registers.{walked};
 ghost use Rattle.generator.specs.Functions.{nextIn, previousBy};
 use generator::Kind;
 use generator::State;
+use generator::Stepped;
 use generator::step;
 use generator::step_back;
+
+// The state that a step answered with. Walks drop the words of their steps here, and nowhere else.
+fn without_word(k: Stepped) -> State
+    ensures { λ r. ⌜ r ≡ k .state ⌝ }
+{
+    k.state
+}
 
 // ---- ordinary steps, eight in a straight line
 
@@ -18,15 +26,14 @@ use generator::step_back;
 fn eight_steps(s: State, tables: &[[u64; 256]; 10]) -> State
     ensures { λ r. ⌜ r ≡ walked (nextIn (now (tables .entry)) Ordinary) 8 s ⌝ }
 {
-    let a = step(Kind::Ordinary, s, tables);
-    let b = step(Kind::Ordinary, a.state, tables);
-    let c = step(Kind::Ordinary, b.state, tables);
-    let d = step(Kind::Ordinary, c.state, tables);
-    let e = step(Kind::Ordinary, d.state, tables);
-    let f = step(Kind::Ordinary, e.state, tables);
-    let g = step(Kind::Ordinary, f.state, tables);
-    let h = step(Kind::Ordinary, g.state, tables);
-    h.state
+    let a = without_word(step(Kind::Ordinary, s, tables));
+    let b = without_word(step(Kind::Ordinary, a, tables));
+    let c = without_word(step(Kind::Ordinary, b, tables));
+    let d = without_word(step(Kind::Ordinary, c, tables));
+    let e = without_word(step(Kind::Ordinary, d, tables));
+    let f = without_word(step(Kind::Ordinary, e, tables));
+    let g = without_word(step(Kind::Ordinary, f, tables));
+    without_word(step(Kind::Ordinary, g, tables))
 }
 
 // n times eight ordinary steps.
@@ -89,8 +96,7 @@ fn steps_by_one(kind: Kind, s: State, n: u64, tables: &[[u64; 256]; 10]) -> Stat
     let mut t = s;
     let mut taken: u64 = 0;
     while taken < n {
-        let stepped = step(kind, t, tables);
-        t = stepped.state;
+        t = without_word(step(kind, t, tables));
         taken += 1;
     }
     t

@@ -1,16 +1,17 @@
 -- `generator::step` meets its contract: the parts of a step together.
-use Rattle.generator.specs.Registers.{nextWith, keystreamWord}
+use Rattle.generator.specs.Registers.{nextWith}
 use borrow.Author.Needs.{needs}
 use Rattle.generator.proofs.step.Statement.{statement}
 use Rattle.generator.proofs.step.Tie as tie
 
 returns : tie.Need-returns
-unfolding nextWith keystreamWord
+unfolding nextWith
 returns c =
-    let m = c .before .before .before in
-    simp (c .wrapping-add-u64 .ensures, c .before .substitute .ensures, c .before .before .shift-in .ensures, m .mix-in .ensures, m .before .feedback .ensures, m .before .before .filter .ensures)
+    let k = c .before in
+    let m = k .before .before .before in
+    simp (c .keystream-word .ensures, k .wrapping-add-u64 .ensures, k .before .substitute .ensures, k .before .before .shift-in .ensures, m .mix-in .ensures, m .before .feedback .ensures, m .before .before .filter .ensures)
 
 pub step-spec : {M : Type 1} → statement M
 step-spec =
     tie.close
-    (tie.spec (λ c. search needs) (λ c κs. search needs) (λ c κs. search needs) (λ c κs. search needs) (λ c κs. search needs) (λ c κs. search needs) (λ c. search needs) (λ c κs. search needs) (λ c. search needs) returns)
+    (tie.spec (λ c. search needs) (λ c κs. search needs) (λ c κs. search needs) (λ c κs. search needs) (λ c κs. search needs) (λ c κs. search needs) (λ c. search needs) (λ c κs. search needs) (λ c κs. search needs) returns)

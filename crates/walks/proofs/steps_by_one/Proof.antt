@@ -5,7 +5,7 @@ use native.Mathlib.Omega.{arith}
 use borrow.Author.Needs.{needs}
 use Rattle.generator.specs.Functions.{nextIn}
 use Rattle.walks.proofs.Turns.{Turns, turns-none, turns-more, turns-all}
-use Rattle.walks.proofs.Lines.{stepped-state}
+use Rattle.walks.proofs.Lines.{stepped-on}
 use Rattle.walks.proofs.steps_by_one.Statement.{statement}
 use Rattle.walks.proofs.steps_by_one.Tie as tie
 
@@ -23,7 +23,8 @@ steps-by-one-spec =
     μ-loop
     (λ c. turns-none)
     (λ c κs. search needs)
+    (λ c κs. search needs)
     (λ c. omega arith)
     (λ c. omega arith)
-    (λ c. turns-more (c .before .before .before .loop .inv) (omega arith) (stepped-state (c .before .step .ensures)))
+    (λ c. turns-more (c .before .before .before .loop .inv) (omega arith) (stepped-on (c .before .step .ensures) (c .without-word .ensures)))
     (λ c. turns-all (c .before .loop .inv) (omega arith) (one-mul _)))
