@@ -101,12 +101,12 @@ impl Registers {
     /// This many steps forward: the registers after them, and the words that they handed over.
     pub fn steps(&self, tables: &Tables, kind: Step, steps: u64) -> (Registers, Vec<u64>) {
         let mut registers = *self;
-        let words = (0..steps).map(|_| {
+        let mut words = Vec::new();
+        for _ in 0..steps {
             let (next, word) = registers.step(tables, kind);
             registers = next;
-            word
-        });
-        let words = words.collect();
+            words.push(word);
+        }
         (registers, words)
     }
 
@@ -130,9 +130,7 @@ impl Registers {
 
     /// The registers this many ordinary steps on.
     pub fn forward(&self, tables: &Tables, steps: u64) -> Registers {
-        (0..steps).fold(*self, |registers, _| {
-            registers.step(tables, Step::Ordinary).0
-        })
+        self.steps(tables, Step::Ordinary, steps).0
     }
 
     /// The registers this many ordinary steps back.
@@ -144,8 +142,9 @@ impl Registers {
 
     /// From a loading to S_0: 32 steps of initialisation and an ordinary one.
     pub fn initialise(&self, tables: &Tables) -> Registers {
-        let (registers, _) = self.steps(tables, Step::Initialisation, 32);
-        registers.step(tables, Step::Ordinary).0
+        self.steps(tables, Step::Initialisation, 32)
+            .0
+            .forward(tables, 1)
     }
 
     /// From S_0 back to the loading.
@@ -157,7 +156,7 @@ impl Registers {
     }
 
     /// The keystream word Z of these registers.
-    pub fn keystream_word(&self) -> u64 {
+    fn keystream_word(&self) -> u64 {
         f(self.cells[15], self.r1, self.r2) ^ self.cells[0]
     }
 }

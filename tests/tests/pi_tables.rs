@@ -58,20 +58,23 @@ fn run_kalyna(tables: &Tables, looked_up: &RefCell<LookedUp>) {
 }
 
 /// Makes the words Z0 .. Z7 of the vectors of DSTU 8845, and notes what T of r1 looks up in each of
-/// the 40 steps before Z7; the step's r2 is that T.
+/// the 40 steps before Z7; the step's r2 is that T. The step that hands over Z7 looks up what no
+/// published word depends on, and is not noted.
 fn run_strumok(tables: &Tables, looked_up: &RefCell<LookedUp>) {
     for (i, vector) in published().iter().enumerate() {
         let mut registers = Registers::load(&vector.key, &vector.iv);
         let mut step = |kind| {
             looked_up.borrow_mut().note(registers.r1);
-            registers = registers.step(tables, kind).0;
-            registers.keystream_word()
+            let (next, word) = registers.step(tables, kind);
+            registers = next;
+            word
         };
         for _ in 0..32 {
             step(Step::Initialisation);
         }
-        let ours: Vec<u64> = (0..8).map(|_| step(Step::Ordinary)).collect();
-        assert_eq!(ours, vector.words, "DSTU 8845, vector {}", i + 1);
+        let mut words: Vec<u64> = (0..8).map(|_| step(Step::Ordinary)).collect();
+        words.push(registers.step(tables, Step::Ordinary).1);
+        assert_eq!(words[1..], vector.words, "DSTU 8845, vector {}", i + 1);
     }
 }
 

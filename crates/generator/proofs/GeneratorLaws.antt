@@ -10,9 +10,8 @@ use Rattle.substitution.specs.Substitution.{columnTables, substitutionTables, m
 use Rattle.substitution.proofs.SubstitutionLaws.{substitution-laws}
 use Rattle.generator.specs.declared.State.{State}
 use Rattle.generator.specs.declared.Kind.{Kind}
-use Rattle.generator.specs.declared.Stepped.{Stepped}
-use Rattle.generator.specs.Registers.{Registers, registersOf, withRegisters, nextWith, previousWith, next, previous, keystreamWord, walked}
-use Rattle.generator.specs.Functions.{nextIn, stepIn, previousBy}
+use Rattle.generator.specs.Registers.{Registers, nextWith, previousWith, next, previous, walked}
+use Rattle.generator.specs.Functions.{previousBy, nextIn}
 use Rattle.generator.specs.GeneratorLaws.{UndoneBy, GeneratorLaws}
 use Rattle.generator.proofs.Round as Round
 use Rattle.generator.proofs.Round.{Inverses}
@@ -57,10 +56,6 @@ next-in-tables =
     ∙ ap (λ (a : ℕ → ℕ). nextWith substitute a (alphaInverseTimesWith (at alphaInverseTable))) alpha-path
     ∙ ap (nextWith substitute alphaTimes) inverse-path
 
-step-in-tables : (kind : Kind) (s : State) → _≡_ {A = Stepped} (stepIn stepTables kind s) (record { state = withRegisters s (next kind (registersOf s)); word = keystreamWord (registersOf s) })
-step-in-tables kind s =
-    ap (λ (f : Kind → Registers → Registers). record { state = withRegisters s (f kind (registersOf s)); word = keystreamWord (registersOf s) }) next-in-tables
-
 pub generator-laws : GeneratorLaws
 generator-laws =
     record {
@@ -70,12 +65,11 @@ generator-laws =
       forward-back = λ kind. iterate-undone (next-previous kind);
       undone-one-to-one = λ g f. undone-one-to-one;
       walks-compose = iterate-add;
+      words-along = words-along;
       next-in-tables = next-in-tables;
       previous-by-tables =
           ap (λ (t : ℕ → ℕ). previousWith t (alphaInverseTimesWith (at alphaInverseTable))) inverse-table-path
           ∙ ap (previousWith substituteInverse) inverse-path;
-      step-in-tables = step-in-tables;
-      words-along = λ kind. words-along (next kind) (step-in-tables kind);
     }
 
 -- ---- walks by the tables of T, α and their inverses

@@ -5,9 +5,7 @@ use Prim.Native.Nat.{ℕ, zero, suc, _+_}
 use native.Mathlib.Nat.{add-zero, add-suc}
 use Rattle.galois.specs.Words.{tabulate}
 use Rattle.generator.specs.declared.State.{State}
-use Rattle.generator.specs.declared.Stepped.{Stepped}
-use Rattle.generator.specs.Registers.{Registers, EighteenWords, registersOf, withRegisters, keystreamWord, iterate, walked}
-use Rattle.generator.specs.Functions.{wordsAlong}
+use Rattle.generator.specs.Registers.{Registers, EighteenWords, registersOf, withRegisters, keystreamWord, iterate, walked, steppedBy, wordsAlong}
 use Rattle.generator.specs.GeneratorLaws.{UndoneBy, OneToOne}
 
 pub iterate-add : {A : Type 0} (f : A → A) (m n : ℕ) (x : A) → iterate f (m + n) x ≡ iterate f n (iterate f m x)
@@ -49,11 +47,9 @@ module _ (f : Registers → Registers) (s : State) where
 
 -- ---- the words of a walk
 
-module _ (f : Registers → Registers) {step : State → Stepped}
-    (h : (s : State) → step s ≡ record { state = withRegisters s (f (registersOf s)); word = keystreamWord (registersOf s) }) where
-  pub words-along : (n : ℕ) (s : State) → wordsAlong step n s ≡ tabulate n (λ (i : ℕ). keystreamWord (registersOf (walked f i s)))
-  words-along zero s = refl
-  words-along (suc n) s =
-      let r = registersOf s in
-      ap (λ (k : Stepped). k .word ∷ wordsAlong step n (k .state)) (h s)
-      ∙ ap (λ (l : List ℕ). keystreamWord r ∷ l) (words-along n (withRegisters s (f r)) ∙ ap (tabulate n) (fun-ext (λ i. ap keystreamWord (iterate-in f i r))))
+pub words-along : (f : Registers → Registers) (n : ℕ) (s : State) → wordsAlong (steppedBy f) n s ≡ tabulate n (λ (i : ℕ). keystreamWord (registersOf (walked f i s)))
+words-along f zero s = refl
+words-along f (suc n) s =
+    let r = registersOf s in
+    ap (λ (l : List ℕ). keystreamWord r ∷ l)
+    (words-along f n (withRegisters s (f r)) ∙ ap (tabulate n) (fun-ext (λ i. ap keystreamWord (iterate-in f i r))))

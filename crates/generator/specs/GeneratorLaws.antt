@@ -8,8 +8,8 @@ use Rattle.sboxes.specs.Sboxes.{piInverse}
 use Rattle.substitution.specs.Substitution.{matrixInverseTables, stepTables}
 use Rattle.generator.specs.declared.State.{State}
 use Rattle.generator.specs.declared.Kind.{Kind}
-use Rattle.generator.specs.Registers.{Registers, EighteenWords, registersOf, withRegisters, next, previous, keystreamWord, iterate, walked}
-use Rattle.generator.specs.Functions.{nextIn, stepIn, wordsAlong, previousBy}
+use Rattle.generator.specs.Registers.{Registers, EighteenWords, registersOf, next, previous, keystreamWord, iterate, walked, steppedBy, wordsAlong}
+use Rattle.generator.specs.Functions.{nextIn, previousBy}
 
 -- f keeps eighteen words such, and g undoes it there
 pub record UndoneBy (g f : Registers → Registers) : Type 0 where
@@ -31,11 +31,9 @@ pub record GeneratorLaws : Type 0 where
   pub undone-one-to-one : (g f : Registers → Registers) → UndoneBy g f → OneToOne f
   -- walks compose, whatever the step
   pub walks-compose : (f : Registers → Registers) (m n : ℕ) (r : Registers) → iterate f (m + n) r ≡ iterate f n (iterate f m r)
+  -- the words handed over along a walk of n steps are the keystream words of the states that it passes, in order: whatever the step, so of either kind
+  pub words-along :
+      (f : Registers → Registers) (n : ℕ) (s : State) → wordsAlong (steppedBy f) n s ≡ tabulate n (λ (i : ℕ). keystreamWord (registersOf (walked f i s)))
   -- with the tables of T, α and their inverses, the functions' steps are these
   pub next-in-tables : nextIn stepTables ≡ next
   pub previous-by-tables : previousBy matrixInverseTables piInverse alphaInverseTable ≡ previous
-  -- document 02, item 2: "the new state" and "the Z of the state it left", in a step of either kind
-  pub step-in-tables : (kind : Kind) (s : State) → stepIn stepTables kind s ≡ record { state = withRegisters s (next kind (registersOf s)); word = keystreamWord (registersOf s) }
-  -- so the words handed over along a walk of n steps are the keystream words of the states that it passes, in order
-  pub words-along :
-      (kind : Kind) (n : ℕ) (s : State) → wordsAlong (stepIn stepTables kind) n s ≡ tabulate n (λ (i : ℕ). keystreamWord (registersOf (walked (next kind) i s)))

@@ -1,4 +1,5 @@
--- Document 01, "Registers and steps": the registers of a state, the steps forward and back, walks of n steps, the keystream word.
+-- Document 01, "Registers and steps": the registers of a state, the steps forward and back, walks of n steps, the keystream word; and document 02,
+-- item 2: the step that hands over its word.
 use mathlib.Core.Path.{_≡_}
 use mathlib.Core.List.{List, [], _∷_, _++_}
 use Prim.Native.Nat.{ℕ, zero, suc, _+_, _-_, _%_, _^_, _<_}
@@ -8,6 +9,7 @@ use Rattle.galois.specs.Words.{at}
 use Rattle.galois.specs.Alpha.{alphaTimes, alphaInverseTimes}
 use Rattle.substitution.specs.Substitution.{substitute, substituteInverse}
 use Rattle.generator.specs.declared.State.{State}
+use Rattle.generator.specs.declared.Stepped.{Stepped}
 use Rattle.generator.specs.declared.Kind.{Kind}
 use Rattle.generator.specs.declared.Kind.the-variants.{Ordinary, Initial}
 
@@ -110,3 +112,13 @@ iterate f (suc n) x = f (iterate f n x)
 -- a state n steps on, by the step f
 abbrev pub walked : (Registers → Registers) → ℕ → State → State
 walked f n s = withRegisters s (iterate f n (registersOf s))
+
+-- document 02, item 2: "one forward step, ordinary or of initialisation, answers with the new state and with the Z of the state it left". The step f of
+-- the registers is a parameter: of either kind, by whatever tables.
+abbrev pub steppedBy : (f : Registers → Registers) → State → Stepped
+steppedBy f s = record { state = withRegisters s (f (registersOf s)); word = keystreamWord (registersOf s) }
+
+-- the words that n steps hand over, in order, each step taken from the state that the one before it answered with
+abbrev pub wordsAlong : (step : State → Stepped) → (n : ℕ) → State → List ℕ
+wordsAlong step zero s = []
+wordsAlong step (suc n) s = step s .word ∷ wordsAlong step n (step s .state)

@@ -2,9 +2,9 @@
 ghost use mathlib.Core.Path.{_≡_};
 ghost use mathlib.Core.List.{[], _∷_, _++_};
 ghost use lib.ListN.{drop, take};
-ghost use Rattle.generator.specs.Registers.{F, difference, mixed, keystreamWord, registersOf};
+ghost use Rattle.generator.specs.Registers.{F, difference, mixed, keystreamWord, registersOf, steppedBy};
 ghost use Rattle.substitution.specs.Substitution.{lookUp};
-ghost use Rattle.generator.specs.Functions.{feedbackIn, stepIn, stepBackBy};
+ghost use Rattle.generator.specs.Functions.{feedbackIn, nextIn, stepBackBy};
 use galois::alpha_inverse_times_by_table;
 use galois::alpha_times_by_table;
 use std::num::wrapping_add_u64;
@@ -141,7 +141,7 @@ fn keystream_word(s: State) -> u64
 
 // One step by the tables that are lent: the one step forward, of either kind. The word that it hands over is that of s.
 pub fn step(kind: Kind, s: State, tables: &[[u64; 256]; 10]) -> Stepped
-    ensures { λ r. ⌜ r ≡ stepIn (now (tables .entry)) kind s ⌝ }
+    ensures { λ r. ⌜ r ≡ steppedBy (nextIn (now (tables .entry)) kind) s ⌝ }
 {
     let c = s.cells;
     let f = filter(c[15], s.r1, s.r2);

@@ -7,7 +7,7 @@ use borrow.Rule.Slice.PartMut.{putMid}
 use lib.ListN.{length, take, drop, length-take, length-drop}
 use Rattle.generator.specs.declared.State.{State}
 use Rattle.generator.specs.declared.Stepped.{Stepped}
-use Rattle.generator.specs.Registers.{Registers, registersOf, keystreamWord, walked}
+use Rattle.generator.specs.Registers.{Registers, registersOf, walked, steppedBy}
 use Rattle.masking.specs.Masking.{byteAt, masked}
 use Rattle.keystream_words.specs.Keystream.{streamByte, KeystreamOver, KeystreamUpTo, WordAt}
 use Rattle.keystream_words.proofs.Parts.{done-length, part-done, stepped-over}
@@ -30,7 +30,7 @@ module _ {f : Registers → Registers} {s : State} {b : List ℕ} {i : ℕ} wher
   no-word few = record { there = λ h. absurd (omega arith); not-there = λ h. (refl, refl) }
 
   -- else a step, and its word over them
-  pub word-made : {k : Stepped} {ys : List ℕ} → i + 8 ≤ length b → k ≡ record { state = walked f 1 s; word = keystreamWord (registersOf s) }
+  pub word-made : {k : Stepped} {ys : List ℕ} → i + 8 ≤ length b → k ≡ steppedBy f s
       → ys ≡ masked (byteAt (k .word)) 0 (take (i + 8 - i) (drop i b)) → WordAt f i s b (k .state) (putMid i (i + 8 - i) b ys)
   word-made {k} {ys} room ek ey =
       let eight : i + 8 - i ≡ 8 = omega arith in

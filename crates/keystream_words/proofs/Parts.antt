@@ -7,7 +7,7 @@ use borrow.Rule.Slice.PartMut.{putMid}
 use lib.ListN.{length, take, drop, length-take, length-drop}
 use Rattle.generator.specs.declared.State.{State}
 use Rattle.generator.specs.declared.Stepped.{Stepped}
-use Rattle.generator.specs.Registers.{Registers, registersOf, keystreamWord, walked}
+use Rattle.generator.specs.Registers.{Registers, registersOf, walked, steppedBy}
 use Rattle.generator.proofs.Iterate.{walked-on}
 use Rattle.masking.specs.Masking.{byteAt, masked}
 use Rattle.masking.proofs.Masked.{partly, partly-all, partly-length, partly-rest, partly-put, masked-ext, masked-length}
@@ -55,7 +55,7 @@ over-length {f} {p} {s} {xs = xs} a = ap length (a .bytes) ∙ masked-length (st
 
 -- a step's word, over bytes of it: up to the word's end the state is the one after the step, before that the one before it
 module _ (f : Registers → Registers) (s : State) (p : ℕ) (xs : List ℕ) {k : Stepped} {ys : List ℕ} (within : p + length xs ≤ 8)
-    (ek : k ≡ record { state = walked f 1 s; word = keystreamWord (registersOf s) }) (ey : ys ≡ masked (byteAt (k .word)) p xs) where
+    (ek : k ≡ steppedBy f s) (ey : ys ≡ masked (byteAt (k .word)) p xs) where
   by-step : ys ≡ masked (streamByte f (registersOf s)) p xs
   by-step = ey ∙ ap (λ (x : Stepped). masked (byteAt (x .word)) p xs) ek ∙ masked-within f (registersOf s) p xs within
 

@@ -25,8 +25,14 @@ pub fn bytes(b: &[u8]) {
     }
 }
 
-// A space and 16 hexadecimal digits: the word that eight bytes hold, least significant byte first.
-fn word(b: &[u8]) {
+// A space and 16 hexadecimal digits: a word.
+pub fn word(w: u64) {
+    text(b" ");
+    io::print_hex(STDOUT_FILENO, w, 16);
+}
+
+// The same: the word that eight bytes hold, least significant byte first.
+fn word_of_bytes(b: &[u8]) {
     text(b" ");
     let mut i: usize = b.len();
     while i > 0 {
@@ -35,18 +41,12 @@ fn word(b: &[u8]) {
     }
 }
 
-// A space and the 16 hexadecimal digits of a word.
-pub fn spaced_word(w: u64) {
-    text(b" ");
-    io::print_hex(STDOUT_FILENO, w, 16);
-}
-
 // The words of as many bytes as there are eights.
 pub fn words(b: &[u8]) {
     let mut i: usize = 0;
     while b.len() - i >= 8 {
         let end = i + 8;
-        word(&b[i..end]);
+        word_of_bytes(&b[i..end]);
         i = end;
     }
 }

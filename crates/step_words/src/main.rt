@@ -1,7 +1,8 @@
 // Runs steps of both kinds from loadings on, and prints the words that they hand over. The file `stdout` beside it is what another implementation
 // printed for the same list.
 ghost use mathlib.Core.Path.{_≡_};
-ghost use Rattle.generator.specs.Registers.{walked};
+ghost use lib.ListN.{length};
+ghost use Rattle.generator.specs.Registers.{walked, steppedBy, wordsAlong};
 ghost use Rattle.generator.specs.Functions.{nextIn};
 use cells::load_cells;
 use columns::step_tables;
@@ -9,26 +10,42 @@ use generator::Kind;
 use generator::State;
 use generator::step;
 use printing::named;
-use printing::spaced_word;
 use printing::text;
+use printing::word;
 use trials::tables;
 
-// n steps, the word of each printed behind a space; hands over the state after them.
-fn steps(kind: Kind, s: State, n: u64, tables: &[[u64; 256]; 10]) -> State
-    ensures { λ r. ⌜ r ≡ walked (nextIn (now (tables .entry)) kind) n s ⌝ }
+// As many steps as there are words lent, each of which takes the word that its step hands over; the state after them.
+fn steps(kind: Kind, s: State, tables: &[[u64; 256]; 10], words: &mut [u64]) -> State
+    ensures { λ r. ⌜ r ≡ walked (nextIn (now (tables .entry)) kind) (length (now (words .entry))) s ⌝ }
+    ensures { λ _. ⌜ now (words .exit) ≡ wordsAlong (steppedBy (nextIn (now (tables .entry)) kind)) (length (now (words .entry))) s ⌝ }
 {
     let mut t = s;
-    let mut taken: u64 = 0;
-    while taken < n {
+    let mut i: usize = 0;
+    while i < words.len() {
         let stepped = step(kind, t, tables);
-        spaced_word(stepped.word);
+        words[i] = stepped.word;
         t = stepped.state;
-        taken += 1;
+        i += 1;
     }
     t
 }
 
-// The 32 steps of initialisation from a loading, and nine ordinary ones: the last eight of their words are those of S_0 to S_7.
+fn print(words: &[u64]) {
+    let mut i: usize = 0;
+    while i < words.len() {
+        word(words[i]);
+        i += 1;
+    }
+}
+
+// A line of words, behind its name.
+fn line(bits: u64, name: &[u8], words: &[u64]) {
+    named(bits, name);
+    print(words);
+    text(b"\n");
+}
+
+// The 32 steps of initialisation from a loading, and nine ordinary ones, of whose words the last eight are those of S_0 to S_7.
 fn words_from(bits: u64, key: &[u8], iv: &[u8]) {
     let tables = step_tables();
     let cells = load_cells(key, iv);
@@ -39,12 +56,12 @@ fn words_from(bits: u64, key: &[u8], iv: &[u8]) {
         size: bits,
         position: 0,
     };
-    named(bits, b"initialisation:");
-    let t = steps(Kind::Initial, loaded, 32, &tables);
-    text(b"\n");
-    named(bits, b"ordinary:");
-    steps(Kind::Ordinary, t, 9, &tables);
-    text(b"\n");
+    let mut initial = [0u64; 32];
+    let t = steps(Kind::Initial, loaded, &tables, &mut initial);
+    line(bits, b"initialisation:", &initial);
+    let mut ordinary = [0u64; 9];
+    steps(Kind::Ordinary, t, &tables, &mut ordinary);
+    line(bits, b"ordinary:", &ordinary);
 }
 
 fn main() {

@@ -1,20 +1,35 @@
--- `step_words::steps` meets its contract: each turn is a step.
-use mathlib.Core.Path.{refl}
+-- `step_words::steps` meets its contract: each turn is a step, and its word goes to its place.
 use Prim.Native.Nat.{_-_}
-use native.Mathlib.Nat.{one-mul}
 use native.Mathlib.Omega.{arith}
+use lib.ListN.{length}
 use borrow.Author.Needs.{needs}
 use Rattle.generator.specs.Functions.{nextIn}
-use Rattle.walks.proofs.Turns.{Turns, turns-none, turns-more, turns-all}
-use Rattle.walks.proofs.Lines.{stepped-on}
+use Rattle.step_words.proofs.Filled.{Filled, filled-none, filled-length, filled-more, filled-all}
 use Rattle.step_words.proofs.steps.Statement.{statement}
 use Rattle.step_words.proofs.steps.Tie as tie
 
 abbrev Inv-loop : tie.InvT-loop
-Inv-loop kind n tables t₀ i₀ t i = Turns (nextIn tables kind) 1 n t₀ i t
+Inv-loop kind tables words₀ t₀ i₀ words t i = Filled (nextIn tables kind) t₀ words₀ i t words
 
 abbrev μ-loop : tie.MeasureT-loop
-μ-loop kind n tables t₀ i₀ t i = n - i
+μ-loop kind tables words₀ t₀ i₀ words t i = length words₀ - i
+
+loop-again : tie.Need-loop-again Inv-loop μ-loop
+loop-again c =
+    let k = c .before in
+    let l = k .before .before in
+    let a = l .before .before .args in
+    let f = nextIn (a .tables .now) (a .kind) in
+    let d = l .loop .inv in
+    filled-more f (a .s) (a .words .now) d (omega (arith, filled-length f (a .s) (a .words .now) d)) (k .step .ensures)
+
+returns : tie.Need-returns Inv-loop μ-loop
+returns c =
+    let l = c .before in
+    let a = l .before .before .args in
+    let f = nextIn (a .tables .now) (a .kind) in
+    let d = l .loop .inv in
+    filled-all f (a .s) (a .words .now) d (omega (arith, filled-length f (a .s) (a .words .now) d))
 
 pub steps-spec : {M : Type 1} → statement M
 steps-spec =
@@ -22,10 +37,12 @@ steps-spec =
     (tie.spec
     Inv-loop
     μ-loop
-    (λ c. turns-none)
+    (λ c. filled-none _ _ _)
     (λ c κs. search needs)
-    (λ c κs. search needs)
+    (λ c. search needs)
     (λ c. omega arith)
     (λ c. omega arith)
-    (λ c. turns-more (c .before .before .before .before .loop .inv) (omega arith) (stepped-on (c .before .before .step .ensures) refl))
-    (λ c. turns-all (c .before .loop .inv) (omega arith) (one-mul _)))
+    (λ c. omega (arith, (loop-again c) .within))
+    loop-again
+    (λ c. filled-length _ _ _ (c .before .loop .inv))
+    returns)

@@ -24,7 +24,8 @@ returns c =
     let d1 = c2 .before in
     let c1 = d1 .before in
     let a = c1 .before .args in
-    eight-in-line (nextIn (a .tables .now) Ordinary) (a .s) (stepped-on (c1 .step .ensures) (d1 .without-word .ensures)) (stepped-on (c2 .step2 .ensures) (d2 .without-word2 .ensures)) (stepped-on (c3 .step3 .ensures) (d3 .without-word3 .ensures)) (stepped-on (c4 .step4 .ensures) (d4 .without-word4 .ensures)) (stepped-on (c5 .step5 .ensures) (d5 .without-word5 .ensures)) (stepped-on (c6 .step6 .ensures) (d6 .without-word6 .ensures)) (stepped-on (c7 .step7 .ensures) (d7 .without-word7 .ensures)) (stepped-on (c8 .step8 .ensures) (c .without-word8 .ensures))
+    let f = nextIn (a .tables .now) Ordinary in
+    eight-in-line f (a .s) (stepped-on f (c1 .step .ensures) (d1 .without-word .ensures)) (stepped-on f (c2 .step2 .ensures) (d2 .without-word2 .ensures)) (stepped-on f (c3 .step3 .ensures) (d3 .without-word3 .ensures)) (stepped-on f (c4 .step4 .ensures) (d4 .without-word4 .ensures)) (stepped-on f (c5 .step5 .ensures) (d5 .without-word5 .ensures)) (stepped-on f (c6 .step6 .ensures) (d6 .without-word6 .ensures)) (stepped-on f (c7 .step7 .ensures) (d7 .without-word7 .ensures)) (stepped-on f (c8 .step8 .ensures) (c .without-word8 .ensures))
 
 pub eight-steps-spec : {M : Type 1} → statement M
 eight-steps-spec =

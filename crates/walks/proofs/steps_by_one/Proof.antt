@@ -15,6 +15,12 @@ Inv-loop kind n tables t₀ i₀ t i = Turns (nextIn tables kind) 1 n t₀ i t
 abbrev μ-loop : tie.MeasureT-loop
 μ-loop kind n tables t₀ i₀ t i = n - i
 
+loop-again : tie.Need-loop-again Inv-loop μ-loop
+loop-again c =
+    let l = c .before .before .before in
+    let a = l .before .args in
+    turns-more (l .loop .inv) (omega arith) (stepped-on (nextIn (a .tables .now) (a .kind)) (c .before .step .ensures) (c .without-word .ensures))
+
 pub steps-by-one-spec : {M : Type 1} → statement M
 steps-by-one-spec =
     tie.close
@@ -26,5 +32,5 @@ steps-by-one-spec =
     (λ c κs. search needs)
     (λ c. omega arith)
     (λ c. omega arith)
-    (λ c. turns-more (c .before .before .before .loop .inv) (omega arith) (stepped-on (c .before .step .ensures) (c .without-word .ensures)))
+    loop-again
     (λ c. turns-all (c .before .loop .inv) (omega arith) (one-mul _)))
