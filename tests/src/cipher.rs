@@ -130,7 +130,9 @@ impl Registers {
 
     /// The registers this many ordinary steps on.
     pub fn forward(&self, tables: &Tables, steps: u64) -> Registers {
-        self.steps(tables, Step::Ordinary, steps).0
+        (0..steps).fold(*self, |registers, _| {
+            registers.step(tables, Step::Ordinary).0
+        })
     }
 
     /// The registers this many ordinary steps back.

@@ -1,4 +1,4 @@
--- What the functions over lent tables hand over: the steps of specs/Registers.antt with words looked up in those tables.
+-- The steps of specs/Registers.antt by tables that are lent, which the contracts name: words are looked up in those tables.
 -- Where the tables are those of T and α, these are the steps of the cipher: laws `next-in-tables` and `previous-by-tables` of specs/GeneratorLaws.antt.
 use mathlib.Core.List.{List, []}
 use Prim.Native.Nat.{ℕ}

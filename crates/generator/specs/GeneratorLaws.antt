@@ -31,7 +31,7 @@ pub record GeneratorLaws : Type 0 where
   pub undone-one-to-one : (g f : Registers → Registers) → UndoneBy g f → OneToOne f
   -- walks compose, whatever the step
   pub walks-compose : (f : Registers → Registers) (m n : ℕ) (r : Registers) → iterate f (m + n) r ≡ iterate f n (iterate f m r)
-  -- the words handed over along a walk of n steps are the keystream words of the states that it passes, in order: whatever the step, so of either kind
+  -- the words handed over along a walk of n steps are the keystream words of the states that its steps leave, in order: whatever the step, so of either kind
   pub words-along :
       (f : Registers → Registers) (n : ℕ) (s : State) → wordsAlong (steppedBy f) n s ≡ tabulate n (λ (i : ℕ). keystreamWord (registersOf (walked f i s)))
   -- with the tables of T, α and their inverses, the functions' steps are these

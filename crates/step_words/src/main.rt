@@ -30,6 +30,7 @@ fn steps(kind: Kind, s: State, tables: &[[u64; 256]; 10], words: &mut [u64]) -> 
     t
 }
 
+// The words, each behind a space.
 fn print(words: &[u64]) {
     let mut i: usize = 0;
     while i < words.len() {
@@ -45,8 +46,8 @@ fn line(bits: u64, name: &[u8], words: &[u64]) {
     text(b"\n");
 }
 
-// The 32 steps of initialisation from a loading, and nine ordinary ones, of whose words the last eight are those of S_0 to S_7.
-fn words_from(bits: u64, key: &[u8], iv: &[u8]) {
+// Two lines: the words of the 32 steps of initialisation from a loading on, and those of nine ordinary steps, of which the last eight leave S_0 to S_7.
+fn lines_from(bits: u64, key: &[u8], iv: &[u8]) {
     let tables = step_tables();
     let cells = load_cells(key, iv);
     let loaded = State {
@@ -68,8 +69,8 @@ fn main() {
     let key = tables::KEY;
     let iv = tables::IV;
     let other = tables::OTHER_IV;
-    words_from(256, &key[..32], &iv);
-    words_from(256, &key[..32], &other);
-    words_from(512, &key[..64], &iv);
-    words_from(512, &key[..64], &other);
+    lines_from(256, &key[..32], &iv);
+    lines_from(256, &key[..32], &other);
+    lines_from(512, &key[..64], &iv);
+    lines_from(512, &key[..64], &other);
 }

@@ -1,4 +1,4 @@
-// What the programs that run edges share: keys and IVs, and the state of a key and an IV at a position.
+// What the programs that run edges, checks and steps share: keys and IVs, and the state of a key and an IV at a position.
 pub mod tables;
 
 ghost use mathlib.Core.Path.{_≡_};

@@ -1,4 +1,4 @@
-// The bytes of the keys and IVs that the edges are run with.
+// The bytes of the keys and IVs that edges, checks and steps are run with.
 
 // Bytes from 1 on: the keys, each as many of them as its length.
 pub const KEY: [u8; 65] = [
