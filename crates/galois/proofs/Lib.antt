@@ -6,4 +6,5 @@ pub mod Gmul
 pub mod Bytes
 pub mod Built
 pub mod Spread
+pub mod Filled
 pub mod AlphaLaws

@@ -1,10 +1,11 @@
--- Walks of n steps: they compose, and where g undoes f the walks undo each other and are one-to-one; the words that they hand over.
+-- Walks of n steps: they compose, and where g undoes f the walks undo each other and are one-to-one; what a step answers, and the words of a walk.
 use mathlib.Core.Path.{_≡_, refl, sym, ap, fun-ext, _∙_}
 use mathlib.Core.List.{List, _∷_}
 use Prim.Native.Nat.{ℕ, zero, suc, _+_}
 use native.Mathlib.Nat.{add-zero, add-suc}
 use Rattle.galois.specs.Words.{tabulate}
 use Rattle.generator.specs.declared.State.{State}
+use Rattle.generator.specs.declared.Stepped.{Stepped}
 use Rattle.generator.specs.Registers.{Registers, EighteenWords, registersOf, withRegisters, keystreamWord, iterate, walked, steppedBy, wordsAlong}
 use Rattle.generator.specs.GeneratorLaws.{UndoneBy, OneToOne}
 
@@ -45,7 +46,14 @@ module _ (f : Registers → Registers) (s : State) where
   pub walked-on : (i k j : ℕ) {t u : State} → t ≡ walked f i s → u ≡ walked f k t → i + k ≡ j → u ≡ walked f j s
   walked-on i k j et eu e = eu ∙ ap (walked f k) et ∙ ap (withRegisters s) (sym (iterate-add f i k (registersOf s))) ∙ ap (λ (n : ℕ). walked f n s) e
 
--- ---- the words of a walk
+-- ---- what a step answers, and the words of a walk
+
+module _ (f : Registers → Registers) {s : State} {k : Stepped} (e : k ≡ steppedBy f s) where
+  pub stepped-state : k .state ≡ walked f 1 s
+  stepped-state = ap (λ (x : Stepped). x .state) e
+
+  pub stepped-word : k .word ≡ keystreamWord (registersOf s)
+  stepped-word = ap (λ (x : Stepped). x .word) e
 
 pub words-along : (f : Registers → Registers) (n : ℕ) (s : State) → wordsAlong (steppedBy f) n s ≡ tabulate n (λ (i : ℕ). keystreamWord (registersOf (walked f i s)))
 words-along f zero s = refl

@@ -8,6 +8,7 @@ use lib.ListN.{length, take, drop, length-take, length-drop}
 use Rattle.generator.specs.declared.State.{State}
 use Rattle.generator.specs.declared.Stepped.{Stepped}
 use Rattle.generator.specs.Registers.{Registers, registersOf, walked, steppedBy}
+use Rattle.generator.proofs.Iterate.{stepped-state}
 use Rattle.masking.specs.Masking.{byteAt, masked}
 use Rattle.keystream_words.specs.Keystream.{streamByte, KeystreamOver, KeystreamUpTo, WordAt}
 use Rattle.keystream_words.proofs.Parts.{done-length, part-done, stepped-over}
@@ -38,7 +39,7 @@ module _ {f : Registers → Registers} {s : State} {b : List ℕ} {i : ℕ} wher
       let over = stepped-over f s 0 (take (i + 8 - i) (drop i b)) (omega arith) ek ey (omega arith) in
       record {
         there = λ h. (
-          ap (λ (x : Stepped). x .state) ek,
+          stepped-state f ek,
           ap (λ (l : List ℕ). putMid i (i + 8 - i) b l) (over .bytes)
               ∙ ap (λ (n : ℕ). take i b ++ (masked (streamByte f (registersOf s)) 0 (take n (drop i b)) ++ drop n (drop i b))) eight,
         );

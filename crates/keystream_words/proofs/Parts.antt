@@ -8,7 +8,7 @@ use lib.ListN.{length, take, drop, length-take, length-drop}
 use Rattle.generator.specs.declared.State.{State}
 use Rattle.generator.specs.declared.Stepped.{Stepped}
 use Rattle.generator.specs.Registers.{Registers, registersOf, walked, steppedBy}
-use Rattle.generator.proofs.Iterate.{walked-on}
+use Rattle.generator.proofs.Iterate.{walked-on, stepped-state, stepped-word}
 use Rattle.masking.specs.Masking.{byteAt, masked}
 use Rattle.masking.proofs.Masked.{partly, partly-all, partly-length, partly-rest, partly-put, masked-ext, masked-length}
 use Rattle.keystream_words.specs.Keystream.{streamByte, KeystreamOver, KeystreamUpTo}
@@ -57,12 +57,12 @@ over-length {f} {p} {s} {xs = xs} a = ap length (a .bytes) ∙ masked-length (st
 module _ (f : Registers → Registers) (s : State) (p : ℕ) (xs : List ℕ) {k : Stepped} {ys : List ℕ} (within : p + length xs ≤ 8)
     (ek : k ≡ steppedBy f s) (ey : ys ≡ masked (byteAt (k .word)) p xs) where
   by-step : ys ≡ masked (streamByte f (registersOf s)) p xs
-  by-step = ey ∙ ap (λ (x : Stepped). masked (byteAt (x .word)) p xs) ek ∙ masked-within f (registersOf s) p xs within
+  by-step = ey ∙ ap (λ (z : ℕ). masked (byteAt z) p xs) (stepped-word f ek) ∙ masked-within f (registersOf s) p xs within
 
   pub stepped-over : p + length xs ≡ 8 → KeystreamOver f p s xs (k .state) ys
   stepped-over h =
       let one : 1 ≡ (p + length xs) / 8 = omega arith in
-      record { state = ap (λ (x : Stepped). x .state) ek ∙ ap (λ (n : ℕ). walked f n s) one; bytes = by-step }
+      record { state = stepped-state f ek ∙ ap (λ (n : ℕ). walked f n s) one; bytes = by-step }
 
   pub left-over : p + length xs < 8 → KeystreamOver f p s xs s ys
   left-over h = let none : 0 ≡ (p + length xs) / 8 = omega arith in record { state = ap (λ (n : ℕ). walked f n s) none; bytes = by-step }

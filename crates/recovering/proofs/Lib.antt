@@ -1,3 +1,2 @@
 -- Lemmas of recovering; a folder has the proof of the function it is named after.
-pub mod Filled
 pub mod KeyWords

@@ -1,2 +1,2 @@
 -- The proofs of step_words.
-pub mod Filled
+pub mod Taken

@@ -1,15 +1,10 @@
 -- Steps in a straight line, and lines followed by single steps.
-use mathlib.Core.Path.{_≡_, refl, ap, _∙_}
+use mathlib.Core.Path.{_≡_, refl}
 use Prim.Native.Nat.{ℕ, _*_, _/_, _%_}
 use native.Mathlib.Omega.{arith}
 use Rattle.generator.specs.declared.State.{State}
-use Rattle.generator.specs.declared.Stepped.{Stepped}
-use Rattle.generator.specs.Registers.{Registers, walked, steppedBy}
+use Rattle.generator.specs.Registers.{Registers, walked}
 use Rattle.generator.proofs.Iterate.{walked-on}
-
--- what is left of a step without its word is the new state
-pub stepped-on : (f : Registers → Registers) {s t : State} {k : Stepped} → k ≡ steppedBy f s → t ≡ k .state → t ≡ walked f 1 s
-stepped-on f ek et = et ∙ ap (λ (x : Stepped). x .state) ek
 
 -- eight steps in a line
 pub eight-in-line : (f : Registers → Registers) (s : State) {a b c d e g h t : State} → a ≡ walked f 1 s → b ≡ walked f 1 a → c ≡ walked f 1 b → d ≡ walked f 1 c → e ≡ walked f 1 d → g ≡ walked f 1 e → h ≡ walked f 1 g → t ≡ walked f 1 h → t ≡ walked f 8 s

@@ -4,12 +4,12 @@ use native.Mathlib.Omega.{arith}
 use lib.ListN.{length}
 use borrow.Author.Needs.{needs}
 use Rattle.generator.specs.Functions.{nextIn}
-use Rattle.step_words.proofs.Filled.{Filled, filled-none, filled-length, filled-more, filled-all}
+use Rattle.step_words.proofs.Taken.{Taken, taken-none, taken-length, taken-more, taken-all}
 use Rattle.step_words.proofs.steps.Statement.{statement}
 use Rattle.step_words.proofs.steps.Tie as tie
 
 abbrev Inv-loop : tie.InvT-loop
-Inv-loop kind tables words₀ t₀ i₀ words t i = Filled (nextIn tables kind) t₀ words₀ i t words
+Inv-loop kind tables words₀ t₀ i₀ words t i = Taken (nextIn tables kind) t₀ words₀ i t words
 
 abbrev μ-loop : tie.MeasureT-loop
 μ-loop kind tables words₀ t₀ i₀ words t i = length words₀ - i
@@ -21,7 +21,7 @@ loop-again c =
     let a = l .before .before .args in
     let f = nextIn (a .tables .now) (a .kind) in
     let d = l .loop .inv in
-    filled-more f (a .s) (a .words .now) d (omega (arith, filled-length f (a .s) (a .words .now) d)) (k .step .ensures)
+    taken-more f (a .s) (a .words .now) d (omega (arith, taken-length f (a .s) (a .words .now) d)) (k .step .ensures)
 
 returns : tie.Need-returns Inv-loop μ-loop
 returns c =
@@ -29,7 +29,7 @@ returns c =
     let a = l .before .before .args in
     let f = nextIn (a .tables .now) (a .kind) in
     let d = l .loop .inv in
-    filled-all f (a .s) (a .words .now) d (omega (arith, filled-length f (a .s) (a .words .now) d))
+    taken-all f (a .s) (a .words .now) d (omega (arith, taken-length f (a .s) (a .words .now) d))
 
 pub steps-spec : {M : Type 1} → statement M
 steps-spec =
@@ -37,12 +37,12 @@ steps-spec =
     (tie.spec
     Inv-loop
     μ-loop
-    (λ c. filled-none _ _ _)
+    (λ c. taken-none _ _ _)
     (λ c κs. search needs)
     (λ c. search needs)
     (λ c. omega arith)
     (λ c. omega arith)
     (λ c. omega (arith, (loop-again c) .within))
     loop-again
-    (λ c. filled-length _ _ _ (c .before .loop .inv))
+    (λ c. taken-length _ _ _ (c .before .loop .inv))
     returns)

@@ -1,11 +1,12 @@
 -- `walks::steps_by_one` meets its contract: each turn is a step.
+use mathlib.Core.Path.{_∙_}
 use Prim.Native.Nat.{_-_}
 use native.Mathlib.Nat.{one-mul}
 use native.Mathlib.Omega.{arith}
 use borrow.Author.Needs.{needs}
 use Rattle.generator.specs.Functions.{nextIn}
+use Rattle.generator.proofs.Iterate.{stepped-state}
 use Rattle.walks.proofs.Turns.{Turns, turns-none, turns-more, turns-all}
-use Rattle.walks.proofs.Lines.{stepped-on}
 use Rattle.walks.proofs.steps_by_one.Statement.{statement}
 use Rattle.walks.proofs.steps_by_one.Tie as tie
 
@@ -19,7 +20,7 @@ loop-again : tie.Need-loop-again Inv-loop μ-loop
 loop-again c =
     let l = c .before .before .before in
     let a = l .before .args in
-    turns-more (l .loop .inv) (omega arith) (stepped-on (nextIn (a .tables .now) (a .kind)) (c .before .step .ensures) (c .without-word .ensures))
+    turns-more (l .loop .inv) (omega arith) (c .without-word .ensures ∙ stepped-state (nextIn (a .tables .now) (a .kind)) (c .before .step .ensures))
 
 pub steps-by-one-spec : {M : Type 1} → statement M
 steps-by-one-spec =
