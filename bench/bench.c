@@ -139,12 +139,13 @@ static void set_states(const uint64_t *state)
     memcpy(states[1], state, sizeof states[1]);
 }
 
-static void compare_open(size_t key_len, size_t iv_len)
+static uint64_t compare_open(size_t key_len, size_t iv_len)
 {
     const uint64_t number = strumok_open(key, key_len, iv, iv_len, states[0]);
 
     expect(in_c.open(key, key_len, iv, iv_len, states[1]) == number, "the numbers of an opening");
     compare_states();
+    return number;
 }
 
 /* Both targets, as far as a portion of this length from one of the first places on may have written, and behind it. */
@@ -185,9 +186,10 @@ static void compare_move(int64_t distance)
 
 static uint64_t compare_check(size_t iv_len, size_t key_len)
 {
-    uint8_t found[2][LENGTH] = {{0}};
-    const uint64_t number = strumok_check(states[0], iv, iv_len, found[0], key_len);
+    uint8_t found[2][LENGTH];
 
+    memset(found, 0xA5, sizeof found);
+    const uint64_t number = strumok_check(states[0], iv, iv_len, found[0], key_len);
     expect(in_c.check(states[1], iv, iv_len, found[1], key_len) == number, "the numbers of a check");
     expect(memcmp(found[0], found[1], LENGTH) == 0, "the keys of a check are equal");
     expect(number != 0 || memcmp(found[0], key, key_len) == 0, "the key of a check is the one that was opened");
@@ -267,6 +269,33 @@ static void compare_damaged(size_t key_len)
     }
 }
 
+/* Keys of zeros are refused; with one byte that is not zero a key is opened. */
+static void compare_zero_keys(size_t key_len)
+{
+    memset(key, 0, LENGTH);
+    expect(compare_open(key_len, IV) == STRUMOK_REFUSED_ZERO_KEY, "a key of zeros is refused");
+    expect(compare_open(key_len, IV - 1) == STRUMOK_REFUSED_IV_LENGTH, "a wrong IV is refused before a key of zeros");
+    for (size_t i = 0; i < key_len; i++) {
+        key[i] = 0x10;
+        expect(compare_open(key_len, IV) == 0, "a key with one byte that is not zero is opened");
+        expect(compare_check(IV, key_len) == 0, "the state of such a key is accepted");
+        key[i] = 0;
+    }
+}
+
+/* A key that loads, with its IV, what a key of zeros loads with an IV of zeros: with that IV its state is refused. */
+static void compare_alike_to_zeros(void)
+{
+    memset(key, 0, LENGTH);
+    memset(iv, 0, LENGTH);
+    key[24] = iv[0] = iv[16] = 0x80; /* K4, IV3, IV1 */
+    expect(compare_open(LONGEST, IV) == 0, "a key that loads what a key of zeros loads is opened");
+    compare_move(1000);
+    expect(compare_check(IV, LONGEST) == 0, "with its IV its state is accepted");
+    memset(iv, 0, LENGTH);
+    expect(compare_check(IV, LONGEST) == STRUMOK_REFUSED_NO_KEY_LEADS, "the state of a key of zeros is refused");
+}
+
 /* A portion and a window from this state, by both forms of the proved library. */
 static void compare_forms(const uint64_t *state, size_t length, size_t target_len)
 {
@@ -325,6 +354,9 @@ static int check(const char *vectors)
             compare_some_call(key_len);
     }
     compare_refusals();
+    compare_zero_keys(32);
+    compare_zero_keys(64);
+    compare_alike_to_zeros();
     printf("bench: the cipher in C has the published vectors and is the proved library's equal in %u comparisons\n", compared);
     return 0;
 }

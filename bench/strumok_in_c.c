@@ -431,18 +431,35 @@ static void key_of_cells(const uint64_t *s, const uint64_t *iv, uint64_t *k, siz
     k[7] = ~s[11];
 }
 
+static int all_zero(const uint64_t *words, size_t count)
+{
+    uint64_t bits = 0;
+
+    for (size_t i = 0; i < count; i++)
+        bits |= words[i];
+    return bits == 0;
+}
+
+/* The number of an opening. The words of the key are written where both lengths are right. */
+static uint64_t number_of_opening(const uint8_t *key, size_t key_len, size_t iv_len, uint64_t *k)
+{
+    if (key_len != 32 && key_len != 64)
+        return STRUMOK_REFUSED_KEY_LENGTH;
+    if (iv_len != IV_LENGTH)
+        return STRUMOK_REFUSED_IV_LENGTH;
+    words_of(key, key_len, k);
+    return all_zero(k, key_len / 8) ? STRUMOK_REFUSED_ZERO_KEY : STRUMOK_ACCEPTED;
+}
+
 uint64_t strumok_in_c_open(const uint8_t *key, size_t key_len, const uint8_t *iv, size_t iv_len, uint64_t state[STRUMOK_STATE_WORDS])
 {
     uint64_t k[LONGEST_KEY / 8], v[IV_LENGTH / 8];
-    const uint64_t number = key_len != 32 && key_len != 64 ? STRUMOK_REFUSED_KEY_LENGTH
-                            : iv_len != IV_LENGTH          ? STRUMOK_REFUSED_IV_LENGTH
-                                                           : STRUMOK_ACCEPTED;
+    const uint64_t number = number_of_opening(key, key_len, iv_len, k);
 
     if (number != STRUMOK_ACCEPTED) {
         memset(state, 0, 8 * STRUMOK_STATE_WORDS);
         return number;
     }
-    words_of(key, key_len, k);
     words_of(iv, IV_LENGTH, v);
     load(state, k, key_len, v);
     state[STRUMOK_R1] = state[STRUMOK_R2] = 0;
@@ -547,7 +564,7 @@ uint64_t strumok_in_c_check(const uint64_t state[STRUMOK_STATE_WORDS], const uin
     words_of(iv, IV_LENGTH, v);
     key_of_cells(start, v, k, key_len);
     load(loaded, k, key_len, v);
-    if (start[STRUMOK_R1] != 0 || start[STRUMOK_R2] != 0 || memcmp(start, loaded, sizeof loaded) != 0)
+    if (start[STRUMOK_R1] != 0 || start[STRUMOK_R2] != 0 || memcmp(start, loaded, sizeof loaded) != 0 || all_zero(k, key_len / 8))
         return STRUMOK_REFUSED_NO_KEY_LEADS;
     bytes_of(k, key_len, key);
     return STRUMOK_ACCEPTED;

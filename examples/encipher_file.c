@@ -3,8 +3,8 @@
  *
  *     encipher_file KEY_FILE IV_FILE INPUT OUTPUT [POSITION]
  *
- * KEY_FILE has the 32 or 64 bytes of the key, IV_FILE the 32 of the IV. The first byte of INPUT meets keystream byte POSITION, 0 where it
- * is not given.
+ * KEY_FILE has the 32 or 64 bytes of the key, which are not all zero, IV_FILE the 32 of the IV. The first byte of INPUT meets keystream byte
+ * POSITION, 0 where it is not given.
  *
  * Where OUTPUT is a regular file, or is not there, what is written goes to OUTPUT.part, which must not be there yet, and takes the name
  * OUTPUT once it is whole; so INPUT and OUTPUT may be the same file. The owner and the mode of a file that is replaced are kept; a new file
@@ -49,6 +49,8 @@ static bool accepted(uint64_t number)
         return failed("refused 2", "the IV length is not 32");
     case STRUMOK_REFUSED_NEW_POSITION_ABOVE:
         return failed("refused 7", "the new position would be above 16777216");
+    case STRUMOK_REFUSED_ZERO_KEY:
+        return failed("refused 14", "the key is all zeros");
     default:
         return failed("refused", "a state that strumok_open did not make");
     }

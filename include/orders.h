@@ -66,7 +66,7 @@ extern "C" {
 /* The most fields of a row. */
 #define ORDERS_MOST_FIELDS 32
 
-/* What orders_read and orders_content return; the numbers follow those of strumok.h. */
+/* What orders_read and orders_content return; the numbers are of one table with those of strumok.h. */
 enum {
     ORDERS_ACCEPTED = 0,
     ORDERS_REFUSED_TARGET_SHORTER = 5,  /* the target is shorter than the content */

@@ -69,7 +69,7 @@ extern "C" {
 /* The last position. */
 #define STRUMOK_LIMIT 16777216
 
-/* What a call returns. */
+/* What a call returns; 11 to 13 are numbers of orders.h. */
 enum {
     STRUMOK_ACCEPTED = 0,
     STRUMOK_REFUSED_KEY_LENGTH = 1,         /* the key length is neither 32 nor 64 */
@@ -81,14 +81,15 @@ enum {
     STRUMOK_REFUSED_NEW_POSITION_ABOVE = 7, /* the new position would be above 16777216 */
     STRUMOK_REFUSED_NEW_POSITION_BELOW = 8, /* the new position would be below 0 */
     STRUMOK_REFUSED_KEY_TARGET_LENGTH = 9,  /* the length of the key target is not an eighth of the size mark */
-    STRUMOK_REFUSED_NO_KEY_LEADS = 10       /* no key of that size with that IV leads to this state */
+    STRUMOK_REFUSED_NO_KEY_LEADS = 10,      /* no key of that size that opening accepts leads, with that IV, to this state */
+    STRUMOK_REFUSED_ZERO_KEY = 14           /* the bytes of the key are all zero */
 };
 
 /*
- * Opens a state, at position 0, from a key of 32 or 64 bytes and an IV of 32. Both stand with their highest word first, each word most
- * significant byte first. All twenty words of the state are written, whatever they held.
+ * Opens a state, at position 0, from a key of 32 or 64 bytes, which are not all zero, and an IV of 32, which may be. Both stand with their
+ * highest word first, each word most significant byte first. All twenty words of the state are written, whatever they held.
  *
- * Refusals, with the blank state: 1, 2. Every call that takes a state refuses the blank one.
+ * Refusals, with the blank state: 1, 2, 14. Every call that takes a state refuses the blank one.
  */
 STRUMOK_MUST_USE STRUMOK_NONNULL
 uint64_t strumok_open(const uint8_t *key, size_t key_len, const uint8_t *iv, size_t iv_len, uint64_t state[STRUMOK_STATE_WORDS]);
@@ -121,9 +122,10 @@ STRUMOK_MUST_USE STRUMOK_NONNULL
 uint64_t strumok_move(uint64_t state[STRUMOK_STATE_WORDS], int64_t distance);
 
 /*
- * Checks a stored state against an IV: it is accepted exactly when some key of its size, opened with that IV, leads to that very state. There
- * is then only one such key, and its bytes are written to key, 32 bytes for size mark 256 and 64 for 512. The state is only read. It walks
- * back to the start, so its time grows with the position.
+ * Checks a stored state against an IV: it is accepted exactly when some key of its size that strumok_open accepts, opened with that IV,
+ * leads to that very state. There is then only one such key, and its bytes are written to key, 32 bytes for size mark 256 and 64 for 512. A
+ * state that only the key of zeros could lead to is refused with 10. The state is only read. The call walks back to the start, so its time
+ * grows with the position.
  *
  * Refusals, with the key target as it was: 2, 3, 4, 9, 10.
  */

@@ -113,9 +113,11 @@ impl State {
         self.words[POSITION]
     }
 
-    /// Opens a new state from a key of 32 or 64 bytes and an IV of 32, at position 0.
+    /// Opens a new state from a key of 32 or 64 bytes, which are not all zero, and an IV of 32, at
+    /// position 0.
     ///
-    /// Refused with 1 for another key length, else with 2 for another IV length.
+    /// Refused with 1 for another key length, else with 2 for another IV length, else with 14 for a
+    /// key whose bytes are all zero.
     pub fn opened(key: &[u8], iv: &[u8]) -> Result<State, Refusal> {
         let mut state = State::BLANK;
         state.open(key, iv).map(|()| state)
@@ -167,11 +169,12 @@ impl State {
         answer(unsafe { strumok_move(self.words.as_mut_ptr(), distance) })
     }
 
-    /// Checks that a key with this IV leads to this state, and writes that key.
+    /// Checks that a key which an opening accepts leads with this IV to this state, and writes that
+    /// key.
     ///
     /// Refused with 2 for an IV length other than 32, 3 or 4 for a state that is not well-formed,
     /// 9 for a key target of a length other than size mark / 8, 10 where no key of that size with
-    /// that IV leads to the state; the key target is then left as it was.
+    /// that IV leads to the state, or only the key of zeros; the key target is then left as it was.
     pub fn check(&self, iv: &[u8], key: &mut [u8]) -> Result<(), Refusal> {
         let state = self.words.as_ptr();
         let (key, key_len) = (key.as_mut_ptr(), key.len());
@@ -191,7 +194,7 @@ impl fmt::Debug for State {
     }
 }
 
-/// Why a call was refused, as a number from 1 to 10.
+/// Why a call was refused, as one of the numbers 1 to 10 and 14.
 #[derive(Clone, Copy, Debug, PartialEq, Eq)]
 pub struct Refusal {
     number: u64,
@@ -217,6 +220,7 @@ impl fmt::Display for Refusal {
             8 => "the new position would be below 0",
             9 => "the key target length is not size mark / 8",
             10 => "no key of that size with that IV leads to this state",
+            14 => "the key is all zeros",
             _ => "unknown number",
         };
         write!(f, "refused {}: {}", self.number, reason)
@@ -252,12 +256,32 @@ mod tests {
         assert_eq!(refusal.number(), 2);
         assert_eq!(refusal.to_string(), "refused 2: the IV length is not 32");
 
-        let mut state = State::opened(&[0; 32], &[0; 32]).unwrap();
+        let refusal = State::opened(&[0; 32], &[0; 32]).unwrap_err();
+        assert_eq!(refusal.number(), 14);
+        assert_eq!(refusal.to_string(), "refused 14: the key is all zeros");
+
+        let mut state = State::opened(&[1; 32], &[0; 32]).unwrap();
         let refusal = state.move_by(LIMIT as i64 + 1).unwrap_err();
         let words = "refused 7: the new position would be above 16,777,216";
         assert_eq!(refusal.to_string(), words);
 
-        assert!(state.open(&[0; 33], &[0; 32]).is_err());
+        assert!(state.open(&[1; 33], &[0; 32]).is_err());
         assert_eq!(state, State::BLANK);
+    }
+
+    #[test]
+    fn keys_of_zeros() {
+        for len in [32, 64] {
+            let mut key = vec![0; len];
+            let mut state = State::opened(&[1; 32], &[2; 32]).unwrap();
+            assert_eq!(state.open(&key, &[2; 32]).unwrap_err().number(), 14);
+            assert_eq!(state, State::BLANK);
+
+            key[len - 1] = 1;
+            let mut found = vec![0; len];
+            assert_eq!(state.open(&key, &[2; 32]), Ok(()));
+            assert_eq!(state.check(&[2; 32], &mut found), Ok(()));
+            assert_eq!(found, key);
+        }
     }
 }

@@ -1,8 +1,9 @@
 /*
  * The calls of strumok.h from C: the published vectors, from the file that the first argument names; the words of a state where the header
  * says that they are; portions, windows and moves; portions and windows by held tables, which are those without; the check and the key
- * that it hands back; and each refusal, with the lowest number where more than one applies, and with nothing altered. What is expected
- * follows from the vectors, the rule of one step and the worked table of the scope paper.
+ * that it hands back; keys of zeros, their states, and a key that loads what a key of zeros loads; and each refusal, with the lowest number
+ * where more than one applies, and with nothing altered. What is expected follows from the vectors, the rules of the steps and the worked
+ * table of the scope paper.
  */
 #include "strumok.h"
 
@@ -108,6 +109,7 @@ static void test_names(void)
     };
     for (int i = 0; i <= 10; i++)
         expect(numbers[i] == i, "the names of the numbers stand in the order of the table");
+    expect(STRUMOK_REFUSED_ZERO_KEY == 14, "the name of number 14");
     expect(STRUMOK_STATE_WORDS == WORDS && STRUMOK_R1 == R1 && STRUMOK_R2 == R2 && STRUMOK_SIZE_MARK == SIZE
                && STRUMOK_POSITION == POSITION,
            "the names of the words");
@@ -146,6 +148,18 @@ static void test_one_word(void)
     expect(same(&s, &old), "and back: the state as it was");
 }
 
+/* The loadings of rows 8 and 11: key and IV all zero, for size mark 256 or 512. */
+static struct state loading_of_zeros(uint64_t size)
+{
+    static const unsigned ones[2][5] = {{15, 13, 10, 7, 6}, {14, 11, 9, 7, 7}};
+    struct state s = {{0}};
+
+    for (unsigned i = 0; i < 5; i++)
+        s.words[ones[size / 256 - 1][i]] = ONES;
+    s.words[SIZE] = size;
+    return s;
+}
+
 /* Rows of the worked table that a step shows: the other words 0, a cell with a word, and the new s15. */
 static void test_worked_steps(void)
 {
@@ -181,29 +195,10 @@ static void test_worked_steps(void)
     expect_number(strumok_window(seven.words, word, 8, 0, 8), 0, "the word of row 7");
     expect(memcmp(word, five, 8) == 0, "row 7: the bytes of Z");
 
-    struct state eight = {{0}}, s, ten; /* row 8, and from it row 10 */
-    eight.words[15] = eight.words[13] = eight.words[10] = eight.words[7] = eight.words[6] = ONES;
-    eight.words[SIZE] = 256;
-    s = eight;
-    ten = stepped(&eight, ONES, T_OF_0);
+    const struct state eight = loading_of_zeros(256), ten = stepped(&eight, ONES, T_OF_0); /* row 8, and from it row 10 */
+    struct state s = eight;
     expect_number(strumok_move(s.words, 8), 0, "the step of row 10");
     expect(ten.words[R1] == ONES && same(&s, &ten), "row 10");
-}
-
-/* Row 11: two pairs of key and IV that load alike, and the check that tells them apart by the IV. */
-static void test_row_11(void)
-{
-    uint8_t key[2][LONGEST] = {{0}}, iv[2][IV] = {{0}}, found[LONGEST];
-    struct state s[2];
-
-    key[1][31] = iv[1][7] = iv[1][23] = 1; /* K4, IV3, IV1 */
-    for (int i = 0; i < 2; i++)
-        expect_number(strumok_open(key[i], LONGEST, iv[i], IV, s[i].words), 0, "an opening of row 11");
-    expect(same(&s[0], &s[1]), "row 11: both pairs open alike");
-    for (int i = 0; i < 2; i++) {
-        expect_number(strumok_check(s[0].words, iv[i], IV, found, LONGEST), 0, "a check of row 11");
-        expect(memcmp(found, key[i], LONGEST) == 0, "row 11: the key that goes with this IV");
-    }
 }
 
 /* One vector: its words by moving, its bytes by applying and by the window, the key by the check. */
@@ -313,10 +308,22 @@ static void test_portions(void)
     expect(memcmp(place, source, 13) == 0, "the same call deciphers");
 }
 
+static void test_open_number(uint64_t want, const uint8_t *key, size_t key_len, const uint8_t *iv, size_t iv_len)
+{
+    static const struct state blank;
+    struct state s = example(256, 5);
+
+    expect_number(strumok_open(key, key_len, iv, iv_len, s.words), want, "open");
+    if (want != 0)
+        expect(same(&s, &blank), "a refused opening gives the blank state");
+    else
+        expect(s.words[SIZE] == 8 * key_len && s.words[POSITION] == 0, "an opening gives size mark and position 0");
+}
+
 static void test_open_numbers(void)
 {
     static const size_t keys[] = {0, 31, 32, 33, 63, 64, 65}, ivs[] = {0, 31, 32, 33};
-    static const struct state blank;
+    static const uint8_t zeros[LENGTH];
     uint8_t key[LENGTH], iv[LENGTH], held[LENGTH];
 
     fill(key, LENGTH);
@@ -325,15 +332,26 @@ static void test_open_numbers(void)
     for (unsigned k = 0; k < 7; k++) {
         for (unsigned v = 0; v < 4; v++) {
             const uint64_t want = keys[k] != 32 && keys[k] != 64 ? 1 : ivs[v] != 32 ? 2 : 0;
-            struct state s = example(256, 5);
-            expect_number(strumok_open(key, keys[k], iv, ivs[v], s.words), want, "open");
-            if (want != 0)
-                expect(same(&s, &blank), "a refused opening gives the blank state");
-            else
-                expect(s.words[SIZE] == 8 * keys[k] && s.words[POSITION] == 0, "an opening gives size mark and position 0");
+            test_open_number(want, key, keys[k], iv, ivs[v]);
+            test_open_number(want, key, keys[k], zeros, ivs[v]);
+            test_open_number(want == 0 ? 14 : want, zeros, keys[k], iv, ivs[v]);
+            test_open_number(want == 0 ? 14 : want, zeros, keys[k], zeros, ivs[v]);
         }
     }
     expect(memcmp(key, held, LENGTH) == 0 && memcmp(iv, held, LENGTH) == 0, "key and IV are only read");
+}
+
+/* A key with one byte that is not zero is opened, wherever that byte stands; one that stands behind the key is no part of it. */
+static void test_keys_beside_zeros(size_t key_len)
+{
+    uint8_t iv[IV];
+
+    fill(iv, IV);
+    for (size_t i = 0; i <= key_len; i++) {
+        uint8_t key[LENGTH] = {0};
+        key[i] = (uint8_t)(1 << i % 8);
+        test_open_number(i < key_len ? 0 : 14, key, key_len, iv, IV);
+    }
 }
 
 /* After a call at this position: moved on by so much where it is accepted, and else the state as it was. */
@@ -609,6 +627,95 @@ static void test_check_of(size_t key_len)
     test_check_number(10, example(8 * key_len, 0), iv, IV, key, key_len);
 }
 
+/* A state of position 0 checked there and at others: at each the same number. */
+static void test_check_at_positions(uint64_t want, const struct state *opened, const uint8_t *iv, const uint8_t *key, size_t key_len)
+{
+    static const int64_t positions[] = {0, 1, 7, 8, 1000, STRUMOK_LIMIT};
+
+    for (unsigned i = 0; i < sizeof positions / sizeof positions[0]; i++) {
+        struct state s = *opened;
+        expect_number(strumok_move(s.words, positions[i]), 0, "the move before a check");
+        test_check_number(want, s, iv, IV, key, key_len);
+    }
+}
+
+/* From a loading to position 0: 32 steps of initialisation, where F of the old words is xored into the new s15, and an ordinary one. */
+static struct state initialised(struct state s)
+{
+    for (unsigned i = 0; i < 32; i++) {
+        const uint64_t f = keystream_word(&s) ^ s.words[0];
+        expect_number(strumok_move(s.words, 8), 0, "a step of initialisation");
+        s.words[15] ^= f;
+    }
+    expect_number(strumok_move(s.words, 8), 0, "the step after initialisation");
+    s.words[POSITION] = 0;
+    return s;
+}
+
+/* The state that a key of zeros leads to is refused with 10; with K0 = 1 and all else the same the key is found. */
+static void test_states_of_zeros(size_t key_len)
+{
+    static const uint8_t iv[IV];
+    uint8_t key[LONGEST] = {0};
+    struct state loading = loading_of_zeros(8 * key_len), s = initialised(loading);
+
+    test_check_at_positions(10, &s, iv, key, key_len);
+    key[key_len - 1] = 1;
+    loading.words[15] ^= 1;
+    loading.words[7] ^= 1;
+    if (key_len == 32) {
+        loading.words[11] ^= 1;
+        loading.words[3] ^= 1;
+    }
+    s = initialised(loading);
+    test_check_at_positions(0, &s, iv, key, key_len);
+}
+
+/* A word as bytes, most significant first. */
+static void put_word(uint8_t *bytes, uint64_t word)
+{
+    for (unsigned i = 0; i < 8; i++)
+        bytes[i] = (uint8_t)(word >> (56 - 8 * i));
+}
+
+/*
+ * Row 11: with K4 = IV3 = IV1 and all other words zero a key loads what the key of zeros loads with an IV of zeros. The check tells them
+ * apart by the IV: with the one it finds the key, with the other there is none that opening accepts.
+ */
+static void test_row_11(uint64_t word)
+{
+    static const uint8_t zeros[IV];
+    const struct state of_zeros = initialised(loading_of_zeros(512));
+    uint8_t key[LONGEST] = {0}, iv[IV] = {0};
+    struct state s;
+
+    put_word(key + 24, word);
+    put_word(iv, word);
+    put_word(iv + 16, word);
+    expect_number(strumok_open(key, LONGEST, iv, IV, s.words), 0, "the opening of row 11");
+    expect(same(&s, &of_zeros), "row 11: the state of a key of zeros");
+    test_check_at_positions(0, &s, iv, key, LONGEST);
+    test_check_at_positions(10, &s, zeros, key, LONGEST);
+}
+
+/* Two keys that load alike, each with its IV, and neither all zero: the check finds the one that goes with the IV. */
+static void test_alike(void)
+{
+    uint8_t key[2][LONGEST] = {{0}}, iv[2][IV] = {{0}};
+    struct state s[2];
+
+    put_word(key[1] + 24, 1);
+    put_word(iv[1], 1);
+    put_word(iv[1] + 16, 1);
+    for (int i = 0; i < 2; i++) {
+        key[i][0] = 1;
+        expect_number(strumok_open(key[i], LONGEST, iv[i], IV, s[i].words), 0, "an opening of keys that load alike");
+    }
+    expect(same(&s[0], &s[1]), "keys that load alike open alike");
+    for (int i = 0; i < 2; i++)
+        test_check_number(0, s[0], iv[i], IV, key[i], LONGEST);
+}
+
 int main(int argc, char **argv)
 {
     if (argc != 2) {
@@ -618,7 +725,6 @@ int main(int argc, char **argv)
     test_names();
     test_one_word();
     test_worked_steps();
-    test_row_11();
     test_vectors(argv[1]);
     test_portions();
     test_tables();
@@ -626,10 +732,18 @@ int main(int argc, char **argv)
     test_held_tables(64);
     test_altered_tables();
     test_open_numbers();
+    test_keys_beside_zeros(32);
+    test_keys_beside_zeros(64);
     test_apply_numbers();
     test_window_numbers();
     test_move_numbers();
     test_check_of(32);
     test_check_of(64);
+    test_states_of_zeros(32);
+    test_states_of_zeros(64);
+    test_row_11(1);
+    test_row_11(UINT64_C(0x8000000000000000));
+    test_row_11(UINT64_C(0x0123456789ABCDEF));
+    test_alike();
     return report("strumok");
 }

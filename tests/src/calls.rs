@@ -60,6 +60,15 @@ fn bad_position(state: &State) -> bool {
     state[POSITION] > LIMIT
 }
 
+/// The number of an opening with this key and IV: it accepts them where that is 0.
+fn opening(key: &[u8], iv: &[u8]) -> u64 {
+    lowest(&[
+        (1, key.len() != 32 && key.len() != 64),
+        (2, iv.len() != 32),
+        (14, key.iter().all(|byte| *byte == 0)),
+    ])
+}
+
 /// The position this far from the state's, as a whole number.
 fn moved(state: &State, distance: i128) -> i128 {
     i128::from(state[POSITION]) + distance
@@ -79,7 +88,7 @@ impl Cipher {
     /// Opens a state from a key and an IV.
     pub fn open(&self, key: &[u8], iv: &[u8], state: &mut State) -> u64 {
         *state = BLANK;
-        let number = lowest(&[(1, key.len() != 32 && key.len() != 64), (2, iv.len() != 32)]);
+        let number = opening(key, iv);
         if number == 0 {
             let registers = Registers::load(key, iv).initialise(&self.tables);
             *state = state_of(&registers, 8 * key.len() as u64, 0);
@@ -138,7 +147,8 @@ impl Cipher {
         number
     }
 
-    /// Walks back to the loading and writes the key, if one with this IV leads to this state.
+    /// Walks back to the loading and writes the key, if one that opening accepts leads with this IV
+    /// to this state.
     pub fn check(&self, state: &State, iv: &[u8], key: &mut [u8]) -> u64 {
         let number = lowest(&[
             (2, iv.len() != 32),
@@ -153,11 +163,11 @@ impl Cipher {
             .back(&self.tables, state[POSITION] / 8)
             .initialise_back(&self.tables);
         match loading.loaded_key(state[SIZE_MARK], iv) {
-            Some(found) => {
+            Some(found) if opening(&found, iv) == 0 => {
                 key.copy_from_slice(&found);
                 0
             }
-            None => 10,
+            _ => 10,
         }
     }
 

@@ -1,5 +1,6 @@
-//! The published vectors of DSTU 8845:2019, and the list of them that the program `vectors`
-//! prints. A proved program prints the same list.
+//! The published vectors of DSTU 8845:2019; keys of 512 bits that load, each with an IV of its own,
+//! what the key of zeros loads; and the list of all these that the program `vectors` prints. A
+//! proved program prints the same list.
 
 use crate::calls::{Cipher, BLANK};
 use std::fmt::Write;
@@ -69,8 +70,32 @@ pub fn words(bytes: &[u8]) -> Vec<u64> {
         .collect()
 }
 
-/// The list: a line for each published vector.
+/// A key of 64 bytes whose word K4 is this one, its other words being zero.
+pub fn key_of_k4(word: u64) -> Vec<u8> {
+    let mut key = vec![0; 64];
+    key[24..32].copy_from_slice(&word.to_be_bytes());
+    key
+}
+
+/// This IV with the word ⊕ed into IV3 and IV1. With it the key of that word as K4 loads what the
+/// key of zeros loads with the IV given.
+pub fn iv_of_k4(iv: &[u8], word: u64) -> Vec<u8> {
+    let mut iv = iv.to_vec();
+    for (i, byte) in word.to_be_bytes().into_iter().enumerate() {
+        iv[i] ^= byte;
+        iv[16 + i] ^= byte;
+    }
+    iv
+}
+
+/// The list: a line for each published vector, then the keys of zeros, and two keys that load what
+/// a key of zeros loads.
 pub fn list(cipher: &Cipher) -> String {
+    let alike = [1, 1 << 63].map(|word| alike_lines(cipher, word));
+    published_lines(cipher) + &zero_lines(cipher) + &alike.concat()
+}
+
+fn published_lines(cipher: &Cipher) -> String {
     let mut list = String::new();
     for (i, vector) in published().iter().enumerate() {
         let mut state = BLANK;
@@ -83,5 +108,32 @@ pub fn list(cipher: &Cipher) -> String {
         }
         list.push('\n');
     }
+    list
+}
+
+fn zero_lines(cipher: &Cipher) -> String {
+    let mut list = String::new();
+    for bits in [256, 512] {
+        let number = cipher.open(&vec![0; bits / 8], &[0; 32], &mut BLANK.clone());
+        writeln!(list, "open {bits} zeros: {number}").unwrap();
+    }
+    list
+}
+
+/// The key of this word as K4, opened and checked with an IV of it as IV3 and IV1, and checked with
+/// an IV of zeros, with which only the key of zeros loads the same.
+fn alike_lines(cipher: &Cipher, word: u64) -> String {
+    let (key, iv) = (key_of_k4(word), iv_of_k4(&[0; 32], word));
+    let mut state = BLANK;
+    let number = cipher.open(&key, &iv, &mut state);
+    let check = |iv: &[u8]| -> String {
+        let mut found = [0xff; 64];
+        let number = cipher.check(&state, iv, &mut found);
+        format!("{number} {}", hex(&found))
+    };
+    let mut list = String::new();
+    writeln!(list, "open 512 K4 = IV3 = IV1 = {word:016x}: {number}").unwrap();
+    writeln!(list, "check with that IV: {}", check(&iv)).unwrap();
+    writeln!(list, "check with an IV of zeros: {}", check(&[0; 32])).unwrap();
     list
 }

@@ -1,6 +1,6 @@
-//! The cipher program, run with whole and cut inputs, up to the limit and past it, through pipes
-//! and from a file, and compared with what the other implementation says it must write; and what
-//! it says on standard error where a read or a write fails or input is left over.
+//! The cipher program, run with whole and cut inputs, with keys of zeros, up to the limit and past
+//! it, through pipes and from a file, and compared with what the other implementation says it must
+//! write; and what it says on standard error where a read or a write fails or input is left over.
 //!
 //! The program is target/bin/cipher, or the one that the environment variable STRUMOK_CIPHER names.
 
@@ -127,6 +127,40 @@ fn headers_cut_short() {
             let what = format!("header of key length {key_len} cut to {cut} bytes");
             check(&cipher, &what, &header[..cut], "");
         }
+    }
+}
+
+#[test]
+fn keys_of_zeros() {
+    let (cipher, mut random) = (Cipher::new(), Random::new(seed()));
+    for key_len in [32, 64] {
+        let (iv_from, data_from) = (1 + key_len, 1 + key_len + 32);
+        let mut input = input(&mut random, key_len as u8, 100_000);
+        input[1..iv_from].fill(0);
+        let longer = [data_from + 1, data_from + 100, input.len()];
+        for cut in (0..=data_from).chain(longer) {
+            let must: &[u8] = match cut {
+                _ if cut < iv_from => b"refused 1\n",
+                _ if cut < data_from => b"refused 2\n",
+                _ => b"refused 14\n",
+            };
+            let what = format!("{key_len} zeros as key, cut to {cut} bytes");
+            assert_eq!(cipher.cipher_program(&input[..cut]), must, "{what}");
+            check(&cipher, &what, &input[..cut], "");
+        }
+    }
+}
+
+#[test]
+fn keys_with_one_byte_that_is_not_zero() {
+    let (cipher, mut random) = (Cipher::new(), Random::new(seed()));
+    for (key_len, place) in [(32, 0), (32, 31), (64, 0), (64, 31), (64, 32), (64, 63)] {
+        let mut input = input(&mut random, key_len as u8, 1000);
+        input[1..1 + key_len].fill(0);
+        input[1 + place] = 1;
+        let what = format!("key of {key_len} bytes, all zero but byte {place}");
+        assert_eq!(cipher.cipher_program(&input).len(), 1000, "{what}");
+        check(&cipher, &what, &input, "");
     }
 }
 

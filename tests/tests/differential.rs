@@ -1,14 +1,18 @@
 //! The proved library beside the other implementation, on random inputs and at the edges.
 //!
 //! After every call the answer's number, all twenty words of the state and every byte of every
-//! buffer are compared, and the guard bytes around the buffers too. The environment variable
+//! buffer are compared, and the guard bytes around the buffers too; and after a refused call, that
+//! they are what they were, but for the blank state of an opening. The environment variable
 //! STRUMOK_SEED (decimal) chooses other inputs.
 
 use std::ops::Range;
 use strumok_tests::calls::{state_of, Cipher, State, BLANK, LIMIT, POSITION, SIZE_MARK};
 use strumok_tests::cipher::Registers;
 use strumok_tests::random::{seed, Random};
-use strumok_tests::vectors::hex;
+use strumok_tests::vectors::{hex, iv_of_k4, key_of_k4};
+
+/// The numbers that the calls answer.
+const NUMBERS: [usize; 12] = [0, 1, 2, 3, 4, 5, 6, 7, 8, 9, 10, 14];
 
 /// A call, without the state and the buffers that it is lent.
 #[derive(Clone, Copy, Debug)]
@@ -94,6 +98,15 @@ fn differences(other: &Lent, library: &Lent) -> Vec<String> {
     found
 }
 
+/// What a refused call must leave of what it was given.
+fn refused(call: Call, given: &Lent) -> Lent {
+    let mut left = given.clone();
+    if let Call::Open = call {
+        left.state = BLANK;
+    }
+    left
+}
+
 /// A key, an IV, and the state that opening gave and later calls or damage altered.
 struct Chain {
     key: Vec<u8>,
@@ -107,7 +120,7 @@ struct Comparison {
     random: Random,
     calls: u64,
     /// How often each number was answered.
-    numbers: [u64; 11],
+    numbers: [u64; 15],
 }
 
 impl Comparison {
@@ -117,12 +130,25 @@ impl Comparison {
             seed,
             random: Random::new(seed),
             calls: 0,
-            numbers: [0; 11],
+            numbers: [0; 15],
         }
     }
 
     /// Makes a call of both, compares what they leave, and answers the number.
     fn run(&mut self, call: Call, state: &mut State, first: &[u8], second: &[u8]) -> u64 {
+        let (number, left) = self.run_with_buffers(call, state, first, second);
+        *state = left.state;
+        number
+    }
+
+    /// Makes a call of both, compares what they leave, and answers the number and what they left.
+    fn run_with_buffers(
+        &mut self,
+        call: Call,
+        state: &State,
+        first: &[u8],
+        second: &[u8],
+    ) -> (u64, Lent) {
         let given = Lent {
             state: *state,
             buffers: [self.guarded(first), self.guarded(second)],
@@ -147,9 +173,30 @@ impl Comparison {
                 found.join("\n")
             );
         }
+        if number != 0 {
+            let altered = differences(&refused(call, &given), &other);
+            assert!(altered.is_empty(), "{call:?}, {number}: {altered:?}");
+        }
         self.numbers[number as usize] += 1;
-        *state = other.state;
-        number
+        (number, other)
+    }
+
+    /// Checks a state with this IV: the key that both wrote, or the number of the refusal.
+    fn key_of(&mut self, state: &State, iv: &[u8]) -> Result<Vec<u8>, u64> {
+        let target = self.random.bytes(state[SIZE_MARK] as usize / 8);
+        let (number, mut left) = self.run_with_buffers(Call::Check, state, iv, &target);
+        match number {
+            0 => Ok(left.buffers[1].buffer().to_vec()),
+            number => Err(number),
+        }
+    }
+
+    /// The state at this position that a loading of a key of this length leads to, by the other
+    /// implementation.
+    fn state_from(&self, loading: &Registers, key_len: usize, position: u64) -> State {
+        let registers = loading.initialise(&self.other.tables);
+        let registers = registers.forward(&self.other.tables, position / 8);
+        state_of(&registers, 8 * key_len as u64, position)
     }
 
     /// A copy of these bytes between guard bytes, beginning at any alignment.
@@ -166,14 +213,18 @@ impl Comparison {
         }
     }
 
-    /// A chain from a random key of this size; some keys and IVs are all zeros or all ones.
+    /// A chain from a random key of this size; some keys and IVs are all zeros or all ones, but one
+    /// bit of a key of zeros is changed.
     fn opened(&mut self, bits: usize) -> Chain {
         let mut bytes = |count| match self.random.below(16) {
             0 => vec![0; count],
             1 => vec![0xff; count],
             _ => self.random.bytes(count),
         };
-        let (key, iv) = (bytes(bits / 8), bytes(32));
+        let (mut key, iv) = (bytes(bits / 8), bytes(32));
+        if key.iter().all(|byte| *byte == 0) {
+            key[self.random.below(bits / 8)] = 1 << self.random.below(8);
+        }
         let mut state = BLANK;
         assert_eq!(self.run(Call::Open, &mut state, &key, &iv), 0);
         Chain { key, iv, state }
@@ -322,6 +373,84 @@ impl Comparison {
         }
     }
 
+    /// Keys of zeros of all lengths with IVs of all lengths, and with many IVs of the right one.
+    fn zero_keys(&mut self) {
+        let lengths = pairs(&Vec::from_iter(0..=80), &Vec::from_iter(0..=40));
+        let right = pairs(&[32, 64], &[32; 100]);
+        for (key_len, iv_len) in lengths.into_iter().chain(right) {
+            let iv = self.random.bytes(iv_len);
+            let mut state = [0; 20].map(|_: u64| self.random.word());
+            let number = self.run(Call::Open, &mut state, &vec![0; key_len], &iv);
+            let must = match (key_len, iv_len) {
+                (32 | 64, 32) => 14,
+                (32 | 64, _) => 2,
+                _ => 1,
+            };
+            assert_eq!(number, must, "key length {key_len}, IV length {iv_len}");
+        }
+    }
+
+    /// Keys that are all zeros but for one bit, or for one byte, at every place: opening accepts
+    /// each, and the check finds it.
+    fn keys_beside_zeros(&mut self) {
+        for len in [32, 64] {
+            for i in 0..9 * len {
+                let mut key = vec![0; len];
+                key[i / 9] = match i % 9 {
+                    8 => self.random.between(1, 255) as u8,
+                    bit => 1 << bit,
+                };
+                let iv = self.random.bytes(32);
+                let mut state = BLANK;
+                assert_eq!(self.run(Call::Open, &mut state, &key, &iv), 0);
+                assert_eq!(self.key_of(&state, &iv), Ok(key));
+            }
+        }
+    }
+
+    /// The states of keys of zeros: the check finds no key. Where one bit of the key is changed it
+    /// finds that key, at the same position and with the same IV.
+    fn states_of_zero_keys(&mut self) {
+        for i in 0..200 {
+            let len = [32, 64][i % 2];
+            let position = match i {
+                0 | 1 => LIMIT,
+                2..=101 => i as u64 / 2 - 1,
+                _ => self.random.below(5_000) as u64,
+            };
+            let iv = match i % 10 {
+                0 | 1 => vec![0; 32],
+                _ => self.random.bytes(32),
+            };
+            let mut key = vec![0; len];
+            let state = self.state_from(&Registers::load(&key, &iv), len, position);
+            assert_eq!(self.key_of(&state, &iv), Err(10), "at {position}");
+
+            key[self.random.below(len)] = 1 << self.random.below(8);
+            let state = self.state_from(&Registers::load(&key, &iv), len, position);
+            assert_eq!(self.key_of(&state, &iv), Ok(key), "at {position}");
+        }
+    }
+
+    /// Keys that load, with an IV of their own, what a key of zeros loads with another IV (512):
+    /// the check finds the key with the one IV, and none with the other.
+    fn alike_to_zeros(&mut self) {
+        for i in 0..100 {
+            let word = self.random.word();
+            let zeros_iv = match i % 2 {
+                0 => vec![0; 32],
+                _ => self.random.bytes(32),
+            };
+            let (key, iv) = (key_of_k4(word), iv_of_k4(&zeros_iv, word));
+            let mut state = BLANK;
+            assert_eq!(self.run(Call::Open, &mut state, &key, &iv), 0);
+            let distance = self.random.below(2_000) as i64;
+            assert_eq!(self.run(Call::Move { distance }, &mut state, &[], &[]), 0);
+            assert_eq!(self.key_of(&state, &zeros_iv), Err(10), "K4 = {word:016x}");
+            assert_eq!(self.key_of(&state, &iv), Ok(key), "K4 = {word:016x}");
+        }
+    }
+
     /// States with any one bit changed.
     fn changed_bits(&mut self) {
         for bits in [256, 512] {
@@ -350,11 +479,8 @@ impl Comparison {
                 cell => loading.cells[cell] ^= bit,
             }
             let position = self.random.below(100) as u64;
-            let registers = loading.initialise(&self.other.tables);
-            let registers = registers.forward(&self.other.tables, position / 8);
-            let mut state = state_of(&registers, 8 * size as u64, position);
-            let target = self.random.bytes(size);
-            assert_eq!(self.run(Call::Check, &mut state, &iv, &target), 10);
+            let state = self.state_from(&loading, size, position);
+            assert_eq!(self.key_of(&state, &iv), Err(10));
         }
     }
 
@@ -465,6 +591,10 @@ fn shown(buffer: &[u8]) -> String {
 fn the_proved_library_does_as_the_other_implementation() {
     let mut comparison = Comparison::new(seed());
     comparison.openings();
+    comparison.zero_keys();
+    comparison.keys_beside_zeros();
+    comparison.states_of_zero_keys();
+    comparison.alike_to_zeros();
     comparison.chains();
     comparison.changed_bits();
     comparison.changed_loadings();
@@ -473,9 +603,11 @@ fn the_proved_library_does_as_the_other_implementation() {
     comparison.long_portions();
     comparison.end_of_range();
     let Comparison { calls, numbers, .. } = comparison;
-    println!("{calls} calls; answers 0 to 10: {numbers:?}");
+    let counts = NUMBERS.map(|number| numbers[number]);
+    println!("{calls} calls; answers 0 to 10 and 14: {counts:?}");
     assert!(calls >= 10_000, "{calls} calls");
-    for (number, count) in numbers.iter().enumerate() {
-        assert!(*count >= 50, "number {number} was answered {count} times");
+    for (number, count) in NUMBERS.iter().zip(counts) {
+        assert!(count >= 50, "number {number} was answered {count} times");
     }
+    assert_eq!(counts.iter().sum::<u64>(), calls, "no other number");
 }

@@ -1,6 +1,7 @@
 //! The published vectors, run with the other implementation and with the proved library; the
-//! worked rows and the tables of the other implementation; and the lists of the programs
-//! `vectors`, `edges`, `checks` and `step_words`, compared with those of the proved programs.
+//! worked rows, the tables and the keys of zeros of the other implementation; and the lists of the
+//! programs `vectors`, `edges`, `checks` and `step_words`, compared with those of the proved
+//! programs.
 
 use std::path::Path;
 use std::process::Command;
@@ -10,7 +11,7 @@ use strumok_tests::field::{
     g, matrix_times, multiply, over_alpha, times_alpha, Tables, M, M_INVERSE,
 };
 use strumok_tests::random::Random;
-use strumok_tests::vectors::{published, words};
+use strumok_tests::vectors::{iv_of_k4, key_of_k4, published, words};
 
 const ONES: u64 = u64::MAX;
 const T_OF_ZERO: u64 = 0x14e6cc3f14e6cc3f;
@@ -84,6 +85,58 @@ fn worked_rows() {
 }
 
 #[test]
+fn the_other_implementation_refuses_keys_of_zeros() {
+    let cipher = Cipher::new();
+    for (key_len, iv_len) in (0..=80).flat_map(|key| (0..=40).map(move |iv| (key, iv))) {
+        let must = match (key_len, iv_len) {
+            (32 | 64, 32) => 14,
+            (32 | 64, _) => 2,
+            _ => 1,
+        };
+        let mut state = [ONES; 20];
+        let number = cipher.open(&vec![0; key_len], &vec![5; iv_len], &mut state);
+        assert_eq!(number, must, "key length {key_len}, IV length {iv_len}");
+        assert_eq!(state, BLANK, "key length {key_len}, IV length {iv_len}");
+    }
+    for len in [32, 64] {
+        for i in 0..len {
+            let mut key = vec![0; len];
+            key[i] = 1;
+            assert_eq!(cipher.open(&key, &[5; 32], &mut BLANK.clone()), 0);
+        }
+    }
+}
+
+/// Words for K4: each bit alone, all ones, and random ones.
+fn words_for_k4() -> Vec<u64> {
+    let mut random = Random::new(2);
+    let mut words: Vec<u64> = (0..64).map(|bit| 1 << bit).collect();
+    words.push(ONES);
+    words.extend((0..100).map(|_| random.word()));
+    words
+}
+
+/// With K4 = IV3 = IV1 and all other words zero, 512, a key that is accepted loads what the key of
+/// zeros loads with an IV of zeros: the IV tells the check which of the two it is.
+#[test]
+fn the_other_implementation_tells_keys_that_load_alike() {
+    let cipher = Cipher::new();
+    let zeros = Registers::load(&[0; 64], &[0; 32]);
+    for word in words_for_k4() {
+        let (key, iv) = (key_of_k4(word), iv_of_k4(&[0; 32], word));
+        assert_eq!(Registers::load(&key, &iv), zeros, "{word:016x}");
+        let mut state = BLANK;
+        assert_eq!(cipher.open(&key, &iv, &mut state), 0, "{word:016x}");
+
+        let mut found = [0xff; 64];
+        let number = cipher.check(&state, &[0; 32], &mut found);
+        assert_eq!((number, found), (10, [0xff; 64]), "{word:016x}");
+        assert_eq!(cipher.check(&state, &iv, &mut found), 0, "{word:016x}");
+        assert_eq!(found[..], key, "{word:016x}");
+    }
+}
+
+#[test]
 fn tables_follow_their_rules() {
     let tables = Tables::new();
     let g = g();
@@ -136,7 +189,7 @@ fn prints_the_same_list(program: &str, name: &str, lines: usize) {
 
 #[test]
 fn the_proved_programs_print_the_same_lists() {
-    prints_the_same_list(env!("CARGO_BIN_EXE_vectors"), "vectors", 8);
+    prints_the_same_list(env!("CARGO_BIN_EXE_vectors"), "vectors", 8 + 2 + 2 * 3);
     prints_the_same_list(env!("CARGO_BIN_EXE_edges"), "edges", 6 + 2 * 10);
     prints_the_same_list(env!("CARGO_BIN_EXE_checks"), "checks", 2 * 7);
     prints_the_same_list(env!("CARGO_BIN_EXE_step_words"), "step_words", 2 * 2 * 2);

@@ -19,9 +19,10 @@ use Rattle.refusals.specs.Tests.{Test, returned}
 use Rattle.refusals.specs.Numbers.{accepted, refusedIvLength, refusedKeyTargetLength, refusedNoKeyLeads}
 use Rattle.answers.specs.declared.Answer.{Answer}
 use Rattle.answers.specs.Tests.{ivLengthTest, sizeMarkTest, positionTest, keyTargetTest, stateTests, WellFormed}
-use Rattle.checking.specs.Checking.{loadedOf, keyOf, sameWords, sameRegisters, loadsAgain, noKeyLeadsTest, testsBefore10, checkingTests, checked, checkedTarget}
+use Rattle.checking.specs.Checking.{loadedOf, keyOf, sameWords, sameRegisters, keyLeads, noKeyLeadsTest, testsBefore10, checkingTests, checked, checkedTarget}
+use Rattle.opening.specs.Opening.{opens}
 use Rattle.opening.proofs.Opened.{key-of-size, key-le}
-use Rattle.refusals.proofs.Tests.{is-one-of, returned-first, returned-rest, returned-none, written-refused, written-accepted}
+use Rattle.refusals.proofs.Tests.{and-true, is-one-of, returned-first, returned-rest, returned-none, written-refused, written-accepted}
 use Rattle.answers.proofs.Tests.{answer-refused, answer-accepted}
 
 -- ---- the tests that ask nothing of the registers
@@ -66,10 +67,6 @@ accepted-checkable s iv len e =
     }
 
 -- ---- the comparison
-
-and-true : (a b : Bool) → (a && b) ≡ true → (a ≡ true) × (b ≡ true)
-and-true true b e = (refl, e)
-and-true false b e = absurd (true≢false (sym e))
 
 words-same : (xs ys : List ℕ) → sameWords xs ys ≡ true → xs ≡ ys
 words-same [] [] e = refl
@@ -157,8 +154,8 @@ module _ (s : State) (iv target : List ℕ) where
     pub room-length : length target ≡ length (take (length target) room)
     room-length = sym (length-take-le (length target) room target-le)
 
-    -- the comparison decides
-    pub decided : {b : Bool} → loadsAgain s iv ≡ b → returned tests ≡ cond (not b) refusedNoKeyLeads accepted
+    -- whether the key leads there decides
+    pub decided : {b : Bool} → keyLeads s iv ≡ b → returned tests ≡ cond (not b) refusedNoKeyLeads accepted
     decided e = returned-rest (testsBefore10 s iv (length target)) (noKeyLeadsTest s iv ∷ []) tt passed ∙ rw e
 
 -- past these tests, the state is walked back to t, and ys is the key that is recovered
@@ -194,9 +191,9 @@ module _ {s : State} {iv target : List ℕ} {t : State} {ys : List ℕ} (r : Rec
   pub front-length : length target ≡ length front
   front-length = sym (ap length front-is ∙ key-length)
 
-  module _ {b : Bool} (eb : b ≡ sameRegisters (load front iv) (registersOf t)) where
-    compared : loadsAgain s iv ≡ b
-    compared = sym (eb ∙ ap₂ (λ (key : List ℕ) (x : State). sameRegisters (load key iv) (registersOf x)) (front-is ∙ key-is) (r .walked-back))
+  module _ {b : Bool} (eb : b ≡ (sameRegisters (load front iv) (registersOf t) && opens front iv)) where
+    compared : keyLeads s iv ≡ b
+    compared = sym (eb ∙ ap₂ (λ (key : List ℕ) (x : State). sameRegisters (load key iv) (registersOf x) && opens key iv) (front-is ∙ key-is) (r .walked-back))
 
     pub check-accepts : {left : List ℕ} → b ≡ true → left ≡ take (length front) front ++ drop (length front) target → Left s iv target (record { number = accepted; state = s }) left
     check-accepts {left} e el =

@@ -1,4 +1,4 @@
--- Document 01, "Positions, windows, moves", its last paragraph: checking a stored state against an IV.
+-- Document 01, "Positions, windows, moves", its last paragraph, with document 02, item 3: checking a stored state against an IV.
 use mathlib.Core.Bool.{Bool, true, false, not, _&&_}
 use mathlib.Core.List.{List, [], _∷_, _++_}
 use Prim.Native.Nat.{ℕ, _/_}
@@ -14,7 +14,7 @@ use Rattle.refusals.specs.Lines.{Line}
 use Rattle.answers.specs.declared.Answer.{Answer}
 use Rattle.answers.specs.Tests.{ivLengthTest, keyTargetTest, stateTests, answerOf}
 use Rattle.answers.specs.Lines.{ivLengthLine, keyTargetLine, stateLines}
-use Rattle.opening.specs.Opening.{Leads}
+use Rattle.opening.specs.Opening.{opens, Leads}
 
 -- "The check walks back floor(p/8) + 1 ordinary steps and 32 of initialisation": to the registers that were loaded, if any key leads here
 unfoldable pub loadedOf : State → Registers
@@ -39,9 +39,13 @@ sameRegisters a b = eqb (a .r1) (b .r1) && (eqb (a .r2) (b .r2) && sameWords (a 
 abbrev pub loadsAgain : State → (iv : List ℕ) → Bool
 loadsAgain s iv = sameRegisters (load (keyOf s iv) iv) (loadedOf s)
 
+-- document 02, item 3: "The check looks for a key that opening accepts": and opening, by its own tests, accepts that key
+abbrev pub keyLeads : State → (iv : List ℕ) → Bool
+keyLeads s iv = loadsAgain s iv && opens (keyOf s iv) iv
+
 -- | 10 | no key of that size with that IV leads to this state |: the test, and the line of the table
 abbrev pub noKeyLeadsTest : State → (iv : List ℕ) → Test
-noKeyLeadsTest s iv = record { number = refusedNoKeyLeads; applies = not (loadsAgain s iv) }
+noKeyLeadsTest s iv = record { number = refusedNoKeyLeads; applies = not (keyLeads s iv) }
 
 abbrev pub noKeyLeadsLine : State → (iv : List ℕ) → Line
 noKeyLeadsLine s iv = record { number = refusedNoKeyLeads; When = (key : List ℕ) → Leads key iv s → ⊥ }

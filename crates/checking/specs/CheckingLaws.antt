@@ -1,16 +1,18 @@
 -- What is proved of the check of a stored state: proofs/CheckingLaws.antt has `checking-laws : CheckingLaws`.
 use mathlib.Core.Path.{_≡_}
 use mathlib.Core.List.{List, [], _∷_}
-use Prim.Native.Nat.{ℕ}
+use Prim.Native.Nat.{ℕ, _/_}
 use lib.ListN.{length}
 use Rattle.generator.specs.declared.State.{State}
 use Rattle.generator.specs.Registers.{EighteenWords, registersOf}
-use Rattle.loading.specs.Loading.{Bytes}
+use Rattle.loading.specs.Loading.{Bytes, KeyAndIv, registersAt}
+use Rattle.loading.specs.LoadingLaws.{ChangedBy}
+use Rattle.loading.specs.WorkedTable.{zeros}
 use Rattle.refusals.specs.Numbers.{accepted, refusedNoKeyLeads}
 use Rattle.refusals.specs.Lines.{NoneApplies}
 use Rattle.answers.specs.Tests.{WellFormed}
 use Rattle.answers.specs.Lines.{RefusesExactly, WritesNothing}
-use Rattle.opening.specs.Opening.{Leads}
+use Rattle.opening.specs.Opening.{OpeningAccepts, Leads}
 use Rattle.checking.specs.Checking.{linesBefore10, checkingLines, checked, checkedTarget}
 
 -- demand 1, of one check: "checking 2, 3, 4, 9, 10"
@@ -53,3 +55,16 @@ pub record CheckingLaws : Type 0 where
   pub leads-checked :
       (key iv : List ℕ) (s : State) (target : List ℕ) → Leads key iv s → WellFormed s → length target ≡ length key
       → (checked s iv target ≡ record { number = accepted; state = s }) × (checkedTarget s iv target ≡ key)
+  -- document 02, item 3: "a state reached only by the zero key now gives 10": of either size and at every position, for the IV with which the key of
+  -- zeros is loaded; the target keeps its bytes
+  pub zero-key-refused :
+      (s : State) (iv target : List ℕ) → Bytes iv → NoneApplies (linesBefore10 s iv (length target))
+      → registersOf s ≡ registersAt (zeros (s .size / 8)) iv (s .position / 8)
+      → (checked s iv target ≡ record { number = 10; state = s }) × (checkedTarget s iv target ≡ target)
+  -- the 512-bit keys and IVs that load what the key of zeros loads with an IV of zeros: all words 0 but K4 = IV3 = IV1 = x. Where x is not 0, opening
+  -- accepts them, so `leads-checked` says of a state to which they lead that the check with that IV hands back the key; with an IV of zeros it is refused
+  pub alike-accepted : (x : ℕ) (key iv : List ℕ) → KeyAndIv key iv → length key ≡ 64 → ChangedBy x (zeros 64) (zeros 32) key iv → (x ≡ 0 → ⊥) → OpeningAccepts key iv
+  pub alike-refused :
+      (x : ℕ) (key iv : List ℕ) (s : State) (target : List ℕ) → length key ≡ 64 → ChangedBy x (zeros 64) (zeros 32) key iv → Leads key iv s
+      → NoneApplies (linesBefore10 s (zeros 32) (length target))
+      → (checked s (zeros 32) target ≡ record { number = 10; state = s }) × (checkedTarget s (zeros 32) target ≡ target)

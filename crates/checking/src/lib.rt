@@ -1,8 +1,10 @@
 // Checking a stored state against an IV.
 ghost use mathlib.Core.Path.{_≡_};
+ghost use mathlib.Core.Bool.{_&&_};
 ghost use Rattle.generator.specs.Registers.{registersOf, withRegisters};
 ghost use Rattle.loading.specs.Loading.{load};
 ghost use Rattle.refusals.specs.Tests.{returned};
+ghost use Rattle.opening.specs.Opening.{opens};
 ghost use Rattle.checking.specs.Checking.{loadedOf, sameWords, sameRegisters, testsBefore10, checked, checkedTarget};
 ghost use Rattle.checking.specs.CheckingLaws.{ChecksExactly};
 use answers::Answer;
@@ -13,6 +15,7 @@ use columns::matrix_inverse_tables;
 use galois::alpha_inverse_table;
 use generator::Kind;
 use generator::State;
+use opening::opening_number;
 use recovering::recover_key;
 use refusals::numbers;
 use sboxes::pi_inverse_tables;
@@ -77,6 +80,17 @@ fn is_loading(t: State, key: &[u8], iv: &[u8]) -> bool
     same_cells(loaded, cells)
 }
 
+// Whether the registers are those that the key and the IV load, and opening accepts these.
+fn leads(t: State, key: &[u8], iv: &[u8]) -> bool
+    ensures { λ r. ⌜ r ≡ (sameRegisters (load (now (key .entry)) (now (iv .entry))) (registersOf t) && opens (now (key .entry)) (now (iv .entry))) ⌝ }
+{
+    if is_loading(t, key, iv) {
+        let number = opening_number(key, iv);
+        return number == numbers::ACCEPTED;
+    }
+    false
+}
+
 // The key that leads to the state with this IV, to the target; or a refusal, with nothing written. The state comes back as it came.
 pub fn check(s: State, iv: &[u8], target: &mut [u8]) -> Answer
     ensures { λ r. ⌜ r ≡ checked s (now (iv .entry)) (now (target .entry)) ⌝ }
@@ -92,8 +106,7 @@ pub fn check(s: State, iv: &[u8], target: &mut [u8]) -> Answer
     let cells = t.cells;
     let mut key: [u8; 64] = [0; 64];
     recover_key(cells, iv, &mut key[..n]);
-    let leads = is_loading(t, &key[..n], iv);
-    if leads {
+    if leads(t, &key[..n], iv) {
         bytes::copy(&key[..n], target);
         return Answer {
             number: numbers::ACCEPTED,

@@ -83,7 +83,9 @@ fn write_refusal(number: u64) -> u64
     ensures { λ r. ⌜ ((r ≡ goingOn → ⊥) → r ≡ writingFailed) ⌝ }
 {
     let line = refusal_line(number);
-    if io::write_all(STDOUT_FILENO, &line) {
+    let bytes = line.bytes;
+    let n = line.count;
+    if io::write_all(STDOUT_FILENO, &bytes[..n]) {
         stops::GOING_ON
     } else {
         stops::WRITING_FAILED

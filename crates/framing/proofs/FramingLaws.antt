@@ -9,7 +9,7 @@ use borrow.Author.Tests.{le-ltb}
 use lib.Dec.{ltb}
 use lib.ListN.{length, take, drop, length-append, length-take}
 use lib.Seq.{take-length, drop-length}
-use Rattle.text.specs.Text.{ascii}
+use Rattle.text.specs.Text.{ascii, decimal}
 use Rattle.generator.specs.declared.State.{State}
 use Rattle.generator.proofs.Cells.{take-lt, drop-lt}
 use Rattle.masking.specs.Masking.{masked}
@@ -131,13 +131,18 @@ state-after input ps e room =
 
 -- ---- refusals
 
-refusal-line : (input : List ℕ) → (started input .number ≡ accepted → ⊥) → RefusedWith input 1 (ascii "refused 1\n") ⊎ RefusedWith input 2 (ascii "refused 2\n")
+refusal-line : (input : List ℕ) → (started input .number ≡ accepted → ⊥)
+    → RefusedWith input 1 (ascii "refused 1\n") ⊎ (RefusedWith input 2 (ascii "refused 2\n") ⊎ RefusedWith input 14 (ascii "refused 14\n"))
+unfolding decimal
 refusal-line input refused = by (header input .in-order .first)
   where
-    by : NumberOfFirst (started input .number) (headerLines input) → RefusedWith input 1 (ascii "refused 1\n") ⊎ RefusedWith input 2 (ascii "refused 2\n")
-    by (inl key) = inl (key .1, ap refusalLine (key .1))
-    by (inr (_, inl iv)) = inr (iv .1, ap refusalLine (iv .1))
-    by (inr (_, inr (_, none))) = absurd (refused none)
+    by : NumberOfFirst (started input .number) (headerLines input)
+        → RefusedWith input 1 (ascii "refused 1\n") ⊎ (RefusedWith input 2 (ascii "refused 2\n") ⊎ RefusedWith input 14 (ascii "refused 14\n"))
+    by (inl length-1) = inl (length-1 .1, ap refusalLine (length-1 .1))
+    by (inr (_, inl length-2)) = inr (inl (length-2 .1, ap refusalLine (length-2 .1)))
+    by (inr (_, inr (_, inl zeros))) = inr (inr (zeros .1, ap refusalLine (zeros .1)))
+    by (inr (_, inr (_, inr (_, none)))) = absurd (refused none)
 
 pub framing-laws : FramingLaws
-framing-laws = record { parts = parts; header = header; refusal-line = refusal-line; refused-1 = refl; refused-2 = refl; header-alone = header-alone; pieces = pieces; state-after = state-after }
+unfolding decimal
+framing-laws = record { parts = parts; header = header; refusal-line = refusal-line; refused-1 = refl; refused-2 = refl; refused-14 = refl; header-alone = header-alone; pieces = pieces; state-after = state-after }

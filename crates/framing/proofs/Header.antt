@@ -9,10 +9,12 @@ use native.Mathlib.Omega.{arith}
 use borrow.Author.Tests.{lt-ltb, le-ltb, ltb-true, ltb-false}
 use lib.Dec.{ltb}
 use lib.ListN.{length, take, drop, length-append, length-take, length-drop, take-append-drop, List·getD-append}
-use lib.Seq.{length-take-le, take-all, take-append-le, drop-append-le, getD-take, drop-drop, drop-cons}
-use Rattle.refusals.specs.Numbers.{accepted, refusedKeyLength, refusedIvLength}
+use lib.Seq.{length-take-le, take-all, take-append-le, drop-append-le, getD-take, getD-drop, drop-drop, drop-cons}
+use Rattle.galois.specs.Words.{at}
+use Rattle.refusals.specs.Numbers.{accepted, refusedKeyLength, refusedIvLength, refusedZeroKey}
 use Rattle.answers.specs.Tests.{keyLengthTest, ivLengthTest}
-use Rattle.opening.specs.Opening.{blank, openedState, openingTests, opened}
+use Rattle.opening.specs.Opening.{blank, openedState, zeroKeyTest, openingTests, opened}
+use Rattle.opening.proofs.Zeros.{zero-key-decides}
 use Rattle.refusals.specs.Lines.{NoneApplies}
 use Rattle.refusals.proofs.Lines.{Decides}
 use Rattle.answers.specs.Lines.{RefusesExactly}
@@ -128,9 +130,32 @@ module _ (input : List ℕ) where
       no : n < 33 + k → length (ivIn input) ≡ 32 → ⊥
       no h e = absurd (omega (arith, iv-length, e))
 
-  pub header : RefusesExactly (started input) (headerLines input) (1 ∷ 2 ∷ []) blank
+  key-at : 1 + k ≤ n → (j : ℕ) → j < k → at (keyIn input) j ≡ at input (1 + j)
+  key-at h j l = ap (λ (key : List ℕ). at key j) (key-whole h) ∙ getD-take k (drop 1 input) j 0 l ∙ getD-drop 1 input j 0
+
+  line-14 : 1 + k ≤ n → Decides (zeroKeyTest (keyIn input)) (record { number = refusedZeroKey; When = (j : ℕ) → j < k → at input (1 + j) ≡ 0 })
+  line-14 h =
+      let d = zero-key-decides (keyIn input) in
+      let long = key-whole-length h in
+      record {
+        number = refl;
+        yes = λ e j l. sym (key-at h j l) ∙ d .yes e j (omega (arith, l, long));
+        no = λ e w. d .no e (λ j l. let in-key : j < k = omega (arith, l, long) in key-at h j in-key ∙ w j in-key);
+      }
+
+  -- past 1 and 2 the whole key is there
+  key-there : ivLengthTest (ivIn input) .applies ≡ false → 1 + k ≤ n
+  key-there e = by (below-or-not n (33 + k))
+    where
+      by : (n < 33 + k) ⊎ (33 + k ≤ n) → 1 + k ≤ n
+      by (inl h) = absurd (line-2 .no e h)
+      by (inr h) = omega arith
+
+  pub header : RefusesExactly (started input) (headerLines input) (1 ∷ 2 ∷ 14 ∷ []) blank
   unfolding started
-  header = refuses-exactly (openingTests (keyIn input) (ivIn input)) (headerLines input) (1 ∷ 2 ∷ []) (openedState (keyIn input) (ivIn input)) blank tt tt refl (line-1, λ t1. (line-2, λ t2. tt))
+  header =
+      refuses-exactly (openingTests (keyIn input) (ivIn input)) (headerLines input) (1 ∷ 2 ∷ 14 ∷ []) (openedState (keyIn input) (ivIn input)) blank tt tt refl
+      (line-1, λ t1. (line-2, λ t2. (line-14 (key-there t2), λ t14. tt)))
 
   -- ---- the parts of an input that is not refused
 

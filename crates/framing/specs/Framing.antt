@@ -1,17 +1,19 @@
--- Document 01 on the cipher program: "one byte giving the key length, the key, 32 IV bytes, data to the end". The input is a list of bytes.
+-- Documents 01 and 02 on the cipher program: "one byte giving the key length, the key, 32 IV bytes, data to the end". The input is a list of bytes.
 use mathlib.Core.Bool.{cond}
 use mathlib.Core.List.{List, [], _∷_, _++_}
-use Prim.Native.Nat.{ℕ, _+_, _-_, _%_}
+use Prim.Native.Nat.{ℕ, _+_, _-_}
 use lib.Dec.{ltb}
 use lib.ListN.{length, take, drop}
-use Rattle.text.specs.Text.{ascii}
+use Rattle.text.specs.Text.{ascii, decimal}
 use Rattle.galois.specs.Words.{at}
 use Rattle.generator.specs.declared.State.{State}
 use Rattle.masking.specs.Masking.{masked}
+use Rattle.loading.specs.WorkedTable.{zeros}
 use Rattle.answers.specs.declared.Answer.{Answer}
 use Rattle.answers.specs.Tests.{limit}
 use Rattle.opening.specs.Opening.{opened}
 use Rattle.applying.specs.Applying.{keystreamByte, windowed, windowedBuffer}
+use Rattle.framing.specs.declared.RefusalLine.{RefusalLine}
 
 -- "one byte giving the key length": 0 where there is none
 abbrev pub keyLengthIn : (input : List ℕ) → ℕ
@@ -38,9 +40,13 @@ lacking (k ∷ rest) = k + 32 - length rest
 unfoldable pub started : (input : List ℕ) → Answer
 started input = opened (keyIn input) (ivIn input)
 
--- the bytes of the line of a refusal, with the last decimal digit of its number and a line feed
+-- the line of a refusal: its number in decimal digits, and a line feed
 abbrev pub refusalLine : (number : ℕ) → List ℕ
-refusalLine number = ascii "refused " ++ ((48 + number % 10) ∷ 10 ∷ [])
+refusalLine number = ascii "refused " ++ (decimal number ++ ascii "\n")
+
+-- a line at the front of 29 bytes, which are 0 else, and its length
+abbrev pub inFront : (line : List ℕ) → RefusalLine
+inFront line = record { bytes = line ++ drop (length line) (zeros 29); count = length line }
 
 -- "It writes the data with the keystream applied. .. At the limit it stops after 16,777,216 data bytes."
 unfoldable pub dataOut : (input : List ℕ) → List ℕ

@@ -2,8 +2,9 @@
 ghost use mathlib.Core.Path.{_≡_};
 ghost use Prim.Native.Nat.{_+_, _-_, _<_, _≤_, min};
 ghost use lib.ListN.{length};
+ghost use Rattle.io.specs.Counts.{Counts};
 ghost use Rattle.answers.specs.Tests.{limit};
-ghost use Rattle.framing.specs.Framing.{lacking, started, refusalLine};
+ghost use Rattle.framing.specs.Framing.{lacking, started, refusalLine, inFront};
 use answers::Answer;
 use answers::LIMIT;
 use generator::State;
@@ -60,12 +61,57 @@ pub fn start(header: &[u8]) -> Answer
     open(&header[1..key_end], &header[key_end..iv_end])
 }
 
+// A line at the front of its bytes, and its length.
+pub struct RefusalLine {
+    pub bytes: [u8; 29],
+    pub count: usize,
+}
+
 // The line of a refusal.
-pub fn refusal_line(number: u64) -> [u8; 10]
-    ensures { λ r. ⌜ r ≡ refusalLine number ⌝ }
+pub fn refusal_line(number: u64) -> RefusalLine
+    ensures { λ r. ⌜ r ≡ inFront (refusalLine number) ⌝ }
+    ensures { λ r. ⌜ Counts (r .count) (r .bytes) ⌝ }
 {
-    let digit = (48 + number % 10) as u8;
-    [b'r', b'e', b'f', b'u', b's', b'e', b'd', b' ', digit, b'\n']
+    let mut digits = [0u8; 20];
+    let k = io::decimal(number, &mut digits);
+    let mut bytes = [
+        b'r',
+        b'e',
+        b'f',
+        b'u',
+        b's',
+        b'e',
+        b'd',
+        b' ',
+        0,
+        0,
+        0,
+        0,
+        0,
+        0,
+        0,
+        0,
+        0,
+        0,
+        0,
+        0,
+        0,
+        0,
+        0,
+        0,
+        0,
+        0,
+        0,
+        0,
+        0,
+    ];
+    let end = 8 + k;
+    bytes::copy(&digits[..k], &mut bytes[8..end]);
+    bytes[end] = b'\n';
+    RefusalLine {
+        bytes,
+        count: end + 1,
+    }
 }
 
 // How many bytes of a buffer of len the next piece may fill: no more than are left up to the last position.

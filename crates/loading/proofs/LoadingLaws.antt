@@ -1,14 +1,16 @@
 -- The laws of the loading that specs/LoadingLaws.antt states.
 use mathlib.Core.Path.{_≡_, refl, sym, ap, ap₂, _∙_, subst}
 use mathlib.Core.Logic.{_⊎_, inl, inr}
-use mathlib.Core.Bool.{Bool, true, false, cond}
+use mathlib.Core.Bool.{Bool, true, false, cond, _||_}
 use mathlib.Core.List.{List, [], _∷_, map, reverse, reverse-reverse}
 use Prim.Native.Nat.{ℕ, zero, suc, _*_, _/_, _^_, _<_}
 use native.Mathlib.Numerals.{add-one}
 use native.Mathlib.Omega.{arith}
+use lib.Bits.{bitXor, xor-self, xor-zero-r}
 use lib.Dec.{T, eqb, ltb, ltb→lt, lit<}
 use lib.ListN.{length, length-map, length-reverse}
 use Rattle.galois.specs.Words.{at}
+use Rattle.galois.proofs.Xor.{xor-middle}
 use Rattle.galois.proofs.Computed.{both, both-left, both-right, allBelow, below}
 use Rattle.generator.specs.declared.Kind.the-variants.{Ordinary, Initial}
 use Rattle.generator.specs.Registers.{Registers, EighteenWords, next, previous, iterate}
@@ -17,7 +19,7 @@ use Rattle.generator.proofs.Iterate.{undone-compose}
 use Rattle.generator.proofs.GeneratorLaws.{generator-laws}
 use Rattle.loading.specs.Loading.{Bytes, KeyAndIv, wordOf, Row, rowsOf, loadedCell, loadedCells, sizeMark, load, initialSteps, initialised, registersAt}
 use Rattle.loading.specs.Recovery.{loadedFrom, recoveredWord, recoveredKey}
-use Rattle.loading.specs.LoadingLaws.{OneToOneInBoth, LoadingLaws}
+use Rattle.loading.specs.LoadingLaws.{OneToOneInBoth, ChangedBy, LoadingLaws}
 use Rattle.loading.specs.WorkedTable.{zeros, key11, iv11}
 use Rattle.loading.proofs.Strings.{reverse-lt, wordOf-lt, stringOf-length, stringOf-bytes, stringOf-ext, stringOf-wordOf, string-ext}
 use Rattle.loading.proofs.Rows.{holdsKey, holdsKeyAlone, holdsIv, someRow, same-key, same-iv, loadedCell-lt}
@@ -129,6 +131,36 @@ not-one-to-one-in-both-512 h =
     let e = h key11 iv11 (zeros 64) (zeros 32) case11 case0 refl refl refl .0 in
     absurd (omega (arith, ap (λ (l : List ℕ). at l 31) e))
 
+-- ---- K4, IV3 and IV1 changed by one word
+
+xor-both : (a b x : ℕ) → bitXor (bitXor a x) (bitXor b x) ≡ bitXor a b
+xor-both a b x = xor-middle a x b x ∙ ap (bitXor (bitXor a b)) (xor-self x) ∙ xor-zero-r (bitXor a b)
+
+loads-alike-512 : (x : ℕ) (key iv key′ iv′ : List ℕ) → length key ≡ 64 → length key′ ≡ 64 → ChangedBy x key iv key′ iv′ → load key iv ≡ load key′ iv′
+unfolding load loadedCells
+loads-alike-512 x key iv key′ iv′ l l′ c =
+    let k : (i : ℕ) → i < 8 → wordOf key′ i ≡ cond (eqb i 4) (bitXor (wordOf key i) x) (wordOf key i) = c .key-words in
+    let v : (j : ℕ) → j < 4 → wordOf iv′ j ≡ cond (eqb j 3 || eqb j 1) (bitXor (wordOf iv j) x) (wordOf iv j) = c .iv-words in
+    sym
+    (rw (
+      l,
+      l′,
+      k 0 (lit< tt),
+      k 1 (lit< tt),
+      k 2 (lit< tt),
+      k 3 (lit< tt),
+      k 4 (lit< tt),
+      k 5 (lit< tt),
+      k 6 (lit< tt),
+      k 7 (lit< tt),
+      v 0 (lit< tt),
+      v 1 (lit< tt),
+      v 2 (lit< tt),
+      v 3 (lit< tt),
+      xor-both (wordOf key 4) (wordOf iv 3) x,
+      xor-both (wordOf key 4) (wordOf iv 1) x,
+    ))
+
 -- ---- and after n steps
 
 walk-back-undoes : (n : ℕ) → UndoneBy (loadedFrom n) (λ r. iterate (next Ordinary) n (initialised r))
@@ -162,6 +194,7 @@ loading-laws =
       recovered-length = recovered-length;
       one-to-one-in-both-256 = one-to-one-in-both-256;
       not-one-to-one-in-both-512 = not-one-to-one-in-both-512;
+      loads-alike-512 = loads-alike-512;
       walk-back-undoes = walk-back-undoes;
       walk-back-undone = walk-back-undone;
       registers-one-to-one-in-key = λ key key′ iv o o′ z n e. one-to-one-in-key key key′ iv o o′ z (loaded-alike key iv key′ iv o o′ n e);

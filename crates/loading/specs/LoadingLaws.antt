@@ -1,19 +1,27 @@
 -- What is proved of the loading: proofs/LoadingLaws.antt has `loading-laws : LoadingLaws`.
 use mathlib.Core.Path.{_≡_}
+use mathlib.Core.Bool.{cond, _||_}
 use mathlib.Core.List.{List, [], _∷_, reverse}
-use Prim.Native.Nat.{ℕ, _*_}
+use Prim.Native.Nat.{ℕ, _*_, _<_}
+use lib.Bits.{bitXor}
+use lib.Dec.{eqb}
 use lib.ListN.{length}
 use Rattle.galois.specs.Words.{tabulate}
 use Rattle.generator.specs.declared.Kind.the-variants.{Ordinary}
 use Rattle.generator.specs.Registers.{EighteenWords, next, iterate}
 use Rattle.generator.specs.GeneratorLaws.{UndoneBy}
-use Rattle.loading.specs.Loading.{Bytes, KeyAndIv, sizeMark, load, initialised, registersAt}
+use Rattle.loading.specs.Loading.{Bytes, KeyAndIv, wordOf, sizeMark, load, initialised, registersAt}
 use Rattle.loading.specs.Recovery.{loadedFrom, recoveredKey}
 
 -- of keys with this size mark, the loading is one-to-one in key and IV together
 abbrev pub OneToOneInBoth : ℕ → Type 0
 OneToOneInBoth size =
     (key iv key′ iv′ : List ℕ) → KeyAndIv key iv → KeyAndIv key′ iv′ → sizeMark key ≡ size → sizeMark key′ ≡ size → load key iv ≡ load key′ iv′ → (key ≡ key′) × (iv ≡ iv′)
+
+-- another key and IV of 512 and 256 bits, whose words are those of the first, but K4, IV3 and IV1, all three ⊕ x
+pub record ChangedBy (x : ℕ) (key iv key′ iv′ : List ℕ) : Type 0 where
+  pub key-words : (i : ℕ) → i < 8 → wordOf key′ i ≡ cond (eqb i 4) (bitXor (wordOf key i) x) (wordOf key i)
+  pub iv-words : (j : ℕ) → j < 4 → wordOf iv′ j ≡ cond (eqb j 3 || eqb j 1) (bitXor (wordOf iv j) x) (wordOf iv j)
 
 pub record LoadingLaws : Type 0 where
   -- "Cells from s15 down to s0", in numerals: of the key 00 01 02 .. and the IV 00 07 0E .., so that K3 of 32 bytes, or K7 of 64, is 0001020304050607
@@ -41,6 +49,8 @@ pub record LoadingLaws : Type 0 where
   pub one-to-one-in-both-256 : OneToOneInBoth 256
   -- for 512 bits it is not: "Different pairs of key and IV can therefore load alike (case 11)"
   pub not-one-to-one-in-both-512 : OneToOneInBoth 512 → ⊥
+  -- "In the 512 form, K4 stands only together with IV3 or IV1.": changed by the same word they load alike
+  pub loads-alike-512 : (x : ℕ) (key iv key′ iv′ : List ℕ) → length key ≡ 64 → length key′ ≡ 64 → ChangedBy x key iv key′ iv′ → load key iv ≡ load key′ iv′
   -- the walk back undoes the way from the loaded registers to those after n steps, and is undone by it, for every n
   pub walk-back-undoes : (n : ℕ) → UndoneBy (loadedFrom n) (λ r. iterate (next Ordinary) n (initialised r))
   pub walk-back-undone : (n : ℕ) → UndoneBy (λ r. iterate (next Ordinary) n (initialised r)) (loadedFrom n)

@@ -1,21 +1,24 @@
 -- What an accepted opening tells, and what the code of opening makes, equated with the definition.
 use mathlib.Core.Path.{_≡_, _∙_}
 use mathlib.Core.Logic.{_⊎_, inl, inr}
+use mathlib.Core.Bool.{Bool, true, false}
 use mathlib.Core.List.{List, [], _∷_}
 use Prim.Native.Nat.{ℕ, _*_, _/_, _≤_}
 use native.Mathlib.Omega.{arith}
 use borrow.Author.Tests.{eqb-true, not-false}
 use lib.Dec.{eqb}
 use lib.ListN.{length}
+use Rattle.galois.specs.Words.{at}
 use Rattle.generator.specs.declared.State.{State}
 use Rattle.generator.specs.Registers.{withRegisters}
 use Rattle.loading.specs.Loading.{KeyAndIv, load, initialised, sizeMark, registersAt}
 use Rattle.refusals.specs.Tests.{returned}
 use Rattle.refusals.specs.Numbers.{accepted}
 use Rattle.answers.specs.Tests.{keyLengthTest, ivLengthTest}
-use Rattle.opening.specs.Opening.{blank, openedState, openingTests, opened, OpeningAccepts}
+use Rattle.opening.specs.Opening.{blank, openedState, allZero, zeroKeyTest, openingTests, opened, OpeningAccepts}
 use Rattle.refusals.proofs.Tests.{one-of, is-one-of, returned-none}
 use Rattle.answers.proofs.Tests.{answer-accepted}
+use Rattle.opening.proofs.Zeros.{not-all-zero, some-byte}
 
 -- ---- the length of a key
 
@@ -30,26 +33,36 @@ key-of-size (inr e) l = (inr (omega arith), omega arith)
 
 -- ---- what an accepted opening tells
 
-pub key-length : (key iv : List ℕ) → returned (openingTests key iv) ≡ accepted → (length key ≡ 32) ⊎ (length key ≡ 64)
-key-length key iv e = is-one-of (length key) 32 64 (returned-none (keyLengthTest key) (ivLengthTest iv ∷ []) tt e .0)
+module _ (key iv : List ℕ) (e : returned (openingTests key iv) ≡ accepted) where
+  past-1 : (keyLengthTest key .applies ≡ false) × (returned (ivLengthTest iv ∷ zeroKeyTest key ∷ []) ≡ accepted)
+  past-1 = returned-none (keyLengthTest key) (ivLengthTest iv ∷ zeroKeyTest key ∷ []) tt e
 
-pub key-short : (key iv : List ℕ) → returned (openingTests key iv) ≡ accepted → length key ≤ 64
-key-short key iv e = key-le (key-length key iv e)
+  past-2 : (ivLengthTest iv .applies ≡ false) × (returned (zeroKeyTest key ∷ []) ≡ accepted)
+  past-2 = returned-none (ivLengthTest iv) (zeroKeyTest key ∷ []) tt (past-1 .1)
 
--- what opening accepts is a key of 256 or 512 bits and an IV of 256
+  pub key-length : (length key ≡ 32) ⊎ (length key ≡ 64)
+  key-length = is-one-of (length key) 32 64 (past-1 .0)
+
+  pub key-short : length key ≤ 64
+  key-short = key-le key-length
+
+  iv-length : length iv ≡ 32
+  iv-length = eqb-true (length iv) 32 (not-false (eqb (length iv) 32) (past-2 .0))
+
+  key-not-zero : allZero key ≡ false
+  key-not-zero = returned-none (zeroKeyTest key) [] tt (past-2 .1) .0
+
+-- what opening accepts is a key of 256 or 512 bits, a byte of which is not 0, and an IV of 256
 pub key-and-iv : {key iv : List ℕ} → OpeningAccepts key iv → KeyAndIv key iv
 key-and-iv {key} {iv} o =
-    let rest = returned-none (keyLengthTest key) (ivLengthTest iv ∷ []) tt (o .opens) .1 in
-    record {
-      key-bytes = o .key-bytes;
-      key-length = key-length key iv (o .opens);
-      iv-bytes = o .iv-bytes;
-      iv-length = eqb-true (length iv) 32 (not-false (eqb (length iv) 32) (returned-none (ivLengthTest iv) [] tt rest .0));
-    }
+    record { key-bytes = o .key-bytes; key-length = key-length key iv (o .opens); iv-bytes = o .iv-bytes; iv-length = iv-length key iv (o .opens) }
 
-pub key-and-iv-open : {key iv : List ℕ} → KeyAndIv key iv → OpeningAccepts key iv
-key-and-iv-open {key} {iv} f =
-    record { key-bytes = f .key-bytes; iv-bytes = f .iv-bytes; opens = rw (one-of (length key) 32 64 (f .key-length), f .iv-length) }
+pub not-zero : {key iv : List ℕ} → OpeningAccepts key iv → (j : ℕ) × (at key j ≡ 0 → ⊥)
+not-zero {key} {iv} o = let place = some-byte key (key-not-zero key iv (o .opens)) in (place .0, place .1 .1)
+
+pub key-and-iv-open : {key iv : List ℕ} → KeyAndIv key iv → (j : ℕ) → (at key j ≡ 0 → ⊥) → OpeningAccepts key iv
+key-and-iv-open {key} {iv} f j h =
+    record { key-bytes = f .key-bytes; iv-bytes = f .iv-bytes; opens = rw (one-of (length key) 32 64 (f .key-length), f .iv-length, not-all-zero key j h) }
 
 -- ---- opening
 

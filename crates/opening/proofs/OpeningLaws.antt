@@ -11,7 +11,8 @@ use Rattle.answers.specs.Tests.{WellFormed}
 use Rattle.answers.proofs.Lines.{refuses-exactly, key-length-decides, iv-length-decides}
 use Rattle.opening.specs.Opening.{blank, openedState, openingTests, openingLines, opened, OpeningAccepts, Leads}
 use Rattle.opening.specs.OpeningLaws.{OpeningLaws}
-use Rattle.opening.proofs.Opened.{key-length, key-and-iv, key-and-iv-open}
+use Rattle.opening.proofs.Zeros.{zero-key-decides}
+use Rattle.opening.proofs.Opened.{key-length, key-and-iv, not-zero, key-and-iv-open}
 
 module _ (key iv : List ℕ) (e : opened key iv .number ≡ accepted) where
   opened-state : opened key iv .state ≡ openedState key iv
@@ -35,10 +36,10 @@ pub opening-laws : OpeningLaws
 opening-laws =
     record {
       refuses =
-          λ key iv. refuses-exactly (openingTests key iv) (openingLines key iv) (1 ∷ 2 ∷ []) (openedState key iv) blank tt tt refl
-          (key-length-decides key, λ t1. (iv-length-decides iv, λ t2. tt));
+          λ key iv. refuses-exactly (openingTests key iv) (openingLines key iv) (1 ∷ 2 ∷ 14 ∷ []) (openedState key iv) blank tt tt refl
+          (key-length-decides key, λ t1. (iv-length-decides iv, λ t2. (zero-key-decides key, λ t14. tt)));
       opening-accepts = λ key iv. key-and-iv-open;
-      opening-accepts-only = λ key iv. key-and-iv;
+      opening-accepts-only = λ key iv o. (key-and-iv o, not-zero o);
       opened-leads = opened-leads;
       opened-well-formed = opened-well-formed;
       opened-position = opened-position;

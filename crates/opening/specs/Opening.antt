@@ -1,12 +1,15 @@
--- Document 01: opening a state from key and IV, and which key leads to a state.
+-- Documents 01 and 02: opening a state from key and IV, which keys it accepts, and which key leads to a state.
 use mathlib.Core.Path.{_≡_}
+use mathlib.Core.Bool.{Bool, true, _&&_}
 use mathlib.Core.List.{List, [], _∷_}
-use Prim.Native.Nat.{ℕ, _/_}
-use lib.ListN.{replicate}
+use Prim.Native.Nat.{ℕ, _/_, _<_}
+use lib.Dec.{eqb}
+use lib.ListN.{length, replicate}
+use Rattle.galois.specs.Words.{at}
 use Rattle.generator.specs.declared.State.{State}
 use Rattle.generator.specs.Registers.{registersOf, stateOf}
 use Rattle.loading.specs.Loading.{Bytes, sizeMark, registersAt}
-use Rattle.refusals.specs.Numbers.{accepted}
+use Rattle.refusals.specs.Numbers.{accepted, refusedZeroKey}
 use Rattle.refusals.specs.Tests.{Test}
 use Rattle.refusals.specs.Lines.{Line}
 use Rattle.answers.specs.declared.Answer.{Answer}
@@ -21,18 +24,34 @@ blank = stateOf (record { cells = replicate 16 0; r1 = 0; r2 = 0 }) 0 0
 abbrev pub openedState : (key iv : List ℕ) → State
 openedState key iv = stateOf (registersAt key iv 0) (sizeMark key) 0
 
--- "Opening tests 1, 2": as tests, and as lines of the table
+-- whether every byte is 0
+abbrev pub allZero : (bytes : List ℕ) → Bool
+allZero [] = true
+allZero (b ∷ bytes) = eqb b 0 && allZero bytes
+
+-- document 02, item 3: "14 is a key whose bytes are all zero": the test, and the line of the table
+abbrev pub zeroKeyTest : (key : List ℕ) → Test
+zeroKeyTest key = record { number = refusedZeroKey; applies = allZero key }
+
+abbrev pub zeroKeyLine : (key : List ℕ) → Line
+zeroKeyLine key = record { number = refusedZeroKey; When = (j : ℕ) → j < length key → at key j ≡ 0 }
+
+-- "opening tests 1, 2, 14": as tests, and as lines of the table. This is the one place that says which keys opening accepts.
 abbrev pub openingTests : (key iv : List ℕ) → List Test
-openingTests key iv = keyLengthTest key ∷ ivLengthTest iv ∷ []
+openingTests key iv = keyLengthTest key ∷ ivLengthTest iv ∷ zeroKeyTest key ∷ []
 
 abbrev pub openingLines : (key iv : List ℕ) → List Line
-openingLines key iv = keyLengthLine key ∷ ivLengthLine iv ∷ []
+openingLines key iv = keyLengthLine key ∷ ivLengthLine iv ∷ zeroKeyLine key ∷ []
 
 -- "A refused opening returns the blank state"
 abbrev pub opened : (key iv : List ℕ) → Answer
 opened key iv = answerOf (openingTests key iv) (openedState key iv) blank
 
--- a key and an IV, strings of bytes, that opening accepts
+-- whether opening accepts a key and an IV,
+abbrev pub opens : (key iv : List ℕ) → Bool
+opens key iv = eqb (opened key iv .number) accepted
+
+-- and that they are strings of bytes which it accepts
 pub record OpeningAccepts (key iv : List ℕ) : Type 0 where
   pub key-bytes : Bytes key
   pub iv-bytes : Bytes iv

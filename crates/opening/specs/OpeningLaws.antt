@@ -2,6 +2,7 @@
 use mathlib.Core.Path.{_≡_}
 use mathlib.Core.List.{List, [], _∷_}
 use Prim.Native.Nat.{ℕ}
+use Rattle.galois.specs.Words.{at}
 use Rattle.generator.specs.declared.State.{State}
 use Rattle.loading.specs.Loading.{KeyAndIv, sizeMark, registersAt}
 use Rattle.refusals.specs.Numbers.{accepted}
@@ -10,9 +11,9 @@ use Rattle.answers.specs.Tests.{stateTests, WellFormed}
 use Rattle.answers.specs.Lines.{RefusesExactly}
 use Rattle.opening.specs.Opening.{blank, openingLines, opened, OpeningAccepts, Leads}
 
--- demand 1, of opening: for every key and IV of whatever length. "Opening tests 1, 2". It is lent nothing to write.
+-- demand 1, of opening: for every key and IV of whatever length. "opening tests 1, 2, 14". It is lent nothing to write.
 abbrev pub OpeningRefusals : Type 0
-OpeningRefusals = (key iv : List ℕ) → RefusesExactly (opened key iv) (openingLines key iv) (1 ∷ 2 ∷ []) blank
+OpeningRefusals = (key iv : List ℕ) → RefusesExactly (opened key iv) (openingLines key iv) (1 ∷ 2 ∷ 14 ∷ []) blank
 
 -- demand 3: "For every number of steps, two accepted 256-bit openings that differ in key or IV hold different registers once each has taken that
 -- many."
@@ -23,9 +24,9 @@ OpeningsDiffer =
 
 pub record OpeningLaws : Type 0 where
   pub refuses : OpeningRefusals
-  -- opening accepts just the keys of 256 or 512 bits with an IV of 256
-  pub opening-accepts : (key iv : List ℕ) → KeyAndIv key iv → OpeningAccepts key iv
-  pub opening-accepts-only : (key iv : List ℕ) → OpeningAccepts key iv → KeyAndIv key iv
+  -- opening accepts just the keys of 256 or 512 bits that have a byte other than 0, at any place, with an IV of 256
+  pub opening-accepts : (key iv : List ℕ) → KeyAndIv key iv → (j : ℕ) → (at key j ≡ 0 → ⊥) → OpeningAccepts key iv
+  pub opening-accepts-only : (key iv : List ℕ) → OpeningAccepts key iv → KeyAndIv key iv × ((j : ℕ) × (at key j ≡ 0 → ⊥))
   -- a key leads to the state that it opens, which is well-formed and stands at position 0
   pub opened-leads : (key iv : List ℕ) → OpeningAccepts key iv → Leads key iv (opened key iv .state)
   pub opened-well-formed : (key iv : List ℕ) → opened key iv .number ≡ accepted → WellFormed (opened key iv .state)

@@ -1,7 +1,7 @@
--- Lists of tests: what is returned, and what a buffer is left with.
+-- Tests: two together, a number that is one of two; lists of tests: what is returned, and what a buffer is left with.
 use mathlib.Core.Path.{_≡_, refl, sym}
 use mathlib.Core.Logic.{_⊎_, inl, inr}
-use mathlib.Core.Bool.{Bool, true, false, true≢false, cond, not, _||_}
+use mathlib.Core.Bool.{Bool, true, false, true≢false, cond, not, _&&_, _||_}
 use mathlib.Core.List.{List, [], _∷_, _++_}
 use Prim.Native.Nat.{ℕ}
 use borrow.Author.Tests.{eq-eqb, ne-eqb, eqb-true, eqb-false}
@@ -9,6 +9,12 @@ use lib.Dec.{T, eqb}
 use Rattle.galois.proofs.Computed.{both}
 use Rattle.refusals.specs.Numbers.{accepted}
 use Rattle.refusals.specs.Tests.{Test, returned, written}
+
+-- ---- two tests
+
+pub and-true : (a b : Bool) → (a && b) ≡ true → (a ≡ true) × (b ≡ true)
+and-true true b e = (refl, e)
+and-true false b e = absurd (true≢false (sym e))
 
 -- ---- a number that is one of two
 

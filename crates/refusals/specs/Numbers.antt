@@ -1,5 +1,5 @@
 -- Document 01, the table of returned numbers, and those of document 02: each number has one name, here, in src/numbers.rt and in the headers for C,
--- up to 10 after STRUMOK_, and 5 and 11 to 13 after ORDERS_.
+-- up to 10 and 14 after STRUMOK_, and 5 and 11 to 13 after ORDERS_.
 use mathlib.Core.Path.{_≡_}
 use mathlib.Core.List.{List, [], _∷_}
 use Prim.Native.Nat.{ℕ}
@@ -64,14 +64,21 @@ refusedRaggedRow = 12
 abbrev pub refusedTooManyFields : ℕ
 refusedTooManyFields = 13
 
+-- ---- document 02, item 3
+
+-- "14 is a key whose bytes are all zero"
+abbrev pub refusedZeroKey : ℕ
+refusedZeroKey = 14
+
 -- ---- the law: proofs/NumberLaws.antt has `number-laws : NumberLaws`
 
 -- every number, in the order above
 abbrev pub everyNumber : List ℕ
 everyNumber =
     accepted ∷ refusedKeyLength ∷ refusedIvLength ∷ refusedSizeMark ∷ refusedPositionAbove ∷ refusedTargetShorter ∷ refusedWindowPastEnd ∷ refusedNewPositionAbove
-    ∷ refusedNewPositionBelow ∷ refusedKeyTargetLength ∷ refusedNoKeyLeads ∷ refusedNotCsv ∷ refusedRaggedRow ∷ refusedTooManyFields ∷ []
+    ∷ refusedNewPositionBelow ∷ refusedKeyTargetLength ∷ refusedNoKeyLeads ∷ refusedNotCsv ∷ refusedRaggedRow ∷ refusedTooManyFields
+    ∷ refusedZeroKey ∷ []
 
 pub record NumberLaws : Type 0 where
   -- in numerals
-  pub numbers : everyNumber ≡ 0 ∷ 1 ∷ 2 ∷ 3 ∷ 4 ∷ 5 ∷ 6 ∷ 7 ∷ 8 ∷ 9 ∷ 10 ∷ 11 ∷ 12 ∷ 13 ∷ []
+  pub numbers : everyNumber ≡ 0 ∷ 1 ∷ 2 ∷ 3 ∷ 4 ∷ 5 ∷ 6 ∷ 7 ∷ 8 ∷ 9 ∷ 10 ∷ 11 ∷ 12 ∷ 13 ∷ 14 ∷ []

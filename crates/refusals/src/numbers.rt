@@ -41,3 +41,6 @@ pub const REFUSED_RAGGED_ROW: u64 = 12;
 
 // A row has more than 32 fields.
 pub const REFUSED_TOO_MANY_FIELDS: u64 = 13;
+
+// The key's bytes are all zero.
+pub const REFUSED_ZERO_KEY: u64 = 14;

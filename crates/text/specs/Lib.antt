@@ -1,2 +1,3 @@
--- The definitions that contracts on text cite.
+-- The definitions that contracts on text cite, and their laws.
 pub mod Text
+pub mod TextLaws

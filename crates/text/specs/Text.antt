@@ -1,8 +1,8 @@
--- Text as the bytes of its ASCII codes: what stands between quotation marks, and numbers in hexadecimal digits.
+-- Text as the bytes of its ASCII codes: what stands between quotation marks, and numbers in hexadecimal and in decimal digits.
 use mathlib.Core.Bool.{cond}
-use mathlib.Core.List.{List, [], _∷_}
+use mathlib.Core.List.{List, [], _∷_, _++_}
 use Prim.Native.Char.{code}
-use Prim.Native.Nat.{ℕ, _+_, _-_, _*_, _/_, _%_, _^_}
+use Prim.Native.Nat.{ℕ, zero, suc, _+_, _-_, _*_, _/_, _%_, _^_}
 use Prim.Native.String as string
 use lib.Dec.{ltb}
 use Rattle.galois.specs.Words.{tabulate}
@@ -23,3 +23,12 @@ hexDigits k n = tabulate k (λ i. hexDigit (n / 2 ^ (4 * (k - (1 + i))) % 16))
 -- the 16 digits of a word
 unfoldable pub hexWord : ℕ → List ℕ
 hexWord n = hexDigits 16 n
+
+-- a number in decimal digits, without zeros in front, as far as so many digits go: those of its tenth, then the last
+abbrev pub decimalDigits : (most : ℕ) → ℕ → List ℕ
+decimalDigits zero n = []
+decimalDigits (suc most) n = cond (ltb n 10) [] (decimalDigits most (n / 10)) ++ ((48 + n % 10) ∷ [])
+
+-- a word has no more than 20
+unfoldable pub decimal : ℕ → List ℕ
+decimal n = decimalDigits 20 n

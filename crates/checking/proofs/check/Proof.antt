@@ -60,7 +60,7 @@ returns-2 c =
     let then = p .before .before .before in
     let l = then .before in
     let found = l .before .before .before in
-    let left = check-accepts (recovered found) (l .is-loading .ensures) (then .if2 .taken) (p .copy .ensures .1) in
+    let left = check-accepts (recovered found) (l .leads .ensures) (then .if2 .taken) (p .copy .ensures .1) in
     (left .0, (left .1, exactly (found .before .before .before .before .before .before .before)))
 
 returns-3 : tie.Need-returns-3
@@ -68,7 +68,7 @@ returns-3 c =
     let l = c .before .before in
     let found = l .before .before .before in
     let ten : c .refused2 .result ≡ record { number = refusedNoKeyLeads; state = _ } = c .refused2 .ensures in
-    let left = check-refuses (recovered found) (l .is-loading .ensures) (c .before .if2 .left) in
+    let left = check-refuses (recovered found) (l .leads .ensures) (c .before .if2 .left) in
     (ten ∙ left .0, (left .1, exactly (found .before .before .before .before .before .before .before)))
 
 pub check-spec : {M : Type 1} → statement M
