@@ -25,12 +25,12 @@ use Rattle.refusals.proofs.Tests.{and-true}
 use Rattle.refusals.proofs.Lines.{Decides, DecideAll, first-line, none-applies, decide-append, writes-nothing}
 use Rattle.answers.specs.Tests.{WellFormed}
 use Rattle.answers.proofs.Lines.{refuses-exactly, iv-length-decides, state-decides, key-target-decides}
-use Rattle.opening.specs.Opening.{allZero, opened, opens, OpeningAccepts, Leads}
+use Rattle.opening.specs.Opening.{allZero, opened, openingAccepts, OpeningAccepts, Leads}
 use Rattle.opening.proofs.Zeros.{some-byte, all-zero-zeros, zeros-at}
 use Rattle.opening.proofs.Opened.{key-of-size, key-and-iv}
 use Rattle.opening.proofs.OpeningLaws.{opening-laws}
 use Rattle.checking.specs.Checking.{loadedOf, keyOf, loadsAgain, keyLeads, noKeyLeadsTest, noKeyLeadsLine, testsBefore10, linesBefore10, checkingTests, checkingLines, checked, checkedTarget}
-use Rattle.checking.specs.CheckingLaws.{CheckingRefusals, Stored, StoredChecked, ChecksExactly, CheckingLaws}
+use Rattle.checking.specs.CheckingLaws.{CheckingRefusals, StoredChecked, ChecksExactly, CheckingLaws}
 use Rattle.checking.proofs.Checks.{Checkable, all-fit, accepted-checkable, registers-same, same-registers, decided}
 
 -- ---- a key that leads to the state is found
@@ -49,11 +49,11 @@ module _ (s : State) (iv key : List ℕ) (l : Leads key iv s) where
   loads-again : loadsAgain s iv ≡ true
   loads-again = same-registers (load (keyOf s iv) iv) (loadedOf s) (ap (λ (k : List ℕ). load k iv) key-found ∙ sym loaded)
 
-  opens-again : opens (keyOf s iv) iv ≡ true
-  opens-again = ap (λ (k : List ℕ). opens k iv) key-found ∙ eq-eqb (opened key iv .number) accepted (l .opening .opens)
+  accepted-again : openingAccepts (keyOf s iv) iv ≡ true
+  accepted-again = ap (λ (k : List ℕ). openingAccepts k iv) key-found ∙ eq-eqb (opened key iv .number) accepted (l .opening .opens)
 
   found : keyLeads s iv ≡ true
-  found = ap₂ _&&_ loads-again opens-again
+  found = ap₂ _&&_ loads-again accepted-again
 
 -- ---- and a key that loads again, and that opening accepts, leads to the state
 
@@ -71,7 +71,7 @@ module _ (s : State) (iv : List ℕ) (words : EighteenWords (registersOf s)) (by
   unfolding loadedOf registersAt
   found-leads e =
       let n = s .position / 8 in
-      let both = and-true (loadsAgain s iv) (opens (keyOf s iv) iv) e in
+      let both = and-true (loadsAgain s iv) (openingAccepts (keyOf s iv) iv) e in
       record {
         opening = record { key-bytes = found-bytes s iv; iv-bytes = bytes; opens = eqb-true (opened (keyOf s iv) iv .number) accepted (both .1) };
         size = key-of-size (fits .size) (found-length s iv) .1;

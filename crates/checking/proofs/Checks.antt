@@ -20,7 +20,7 @@ use Rattle.refusals.specs.Numbers.{accepted, refusedIvLength, refusedKeyTargetL
 use Rattle.answers.specs.declared.Answer.{Answer}
 use Rattle.answers.specs.Tests.{ivLengthTest, sizeMarkTest, positionTest, keyTargetTest, stateTests, WellFormed}
 use Rattle.checking.specs.Checking.{loadedOf, keyOf, sameWords, sameRegisters, keyLeads, noKeyLeadsTest, testsBefore10, checkingTests, checked, checkedTarget}
-use Rattle.opening.specs.Opening.{opens}
+use Rattle.opening.specs.Opening.{openingAccepts}
 use Rattle.opening.proofs.Opened.{key-of-size, key-le}
 use Rattle.refusals.proofs.Tests.{and-true, is-one-of, returned-first, returned-rest, returned-none, written-refused, written-accepted}
 use Rattle.answers.proofs.Tests.{answer-refused, answer-accepted}
@@ -191,9 +191,9 @@ module _ {s : State} {iv target : List ℕ} {t : State} {ys : List ℕ} (r : Rec
   pub front-length : length target ≡ length front
   front-length = sym (ap length front-is ∙ key-length)
 
-  module _ {b : Bool} (eb : b ≡ (sameRegisters (load front iv) (registersOf t) && opens front iv)) where
+  module _ {b : Bool} (eb : b ≡ (sameRegisters (load front iv) (registersOf t) && openingAccepts front iv)) where
     compared : keyLeads s iv ≡ b
-    compared = sym (eb ∙ ap₂ (λ (key : List ℕ) (x : State). sameRegisters (load key iv) (registersOf x) && opens key iv) (front-is ∙ key-is) (r .walked-back))
+    compared = sym (eb ∙ ap₂ (λ (key : List ℕ) (x : State). sameRegisters (load key iv) (registersOf x) && openingAccepts key iv) (front-is ∙ key-is) (r .walked-back))
 
     pub check-accepts : {left : List ℕ} → b ≡ true → left ≡ take (length front) front ++ drop (length front) target → Left s iv target (record { number = accepted; state = s }) left
     check-accepts {left} e el =

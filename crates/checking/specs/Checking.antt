@@ -14,7 +14,7 @@ use Rattle.refusals.specs.Lines.{Line}
 use Rattle.answers.specs.declared.Answer.{Answer}
 use Rattle.answers.specs.Tests.{ivLengthTest, keyTargetTest, stateTests, answerOf}
 use Rattle.answers.specs.Lines.{ivLengthLine, keyTargetLine, stateLines}
-use Rattle.opening.specs.Opening.{opens, Leads}
+use Rattle.opening.specs.Opening.{openingAccepts, Leads}
 
 -- "The check walks back floor(p/8) + 1 ordinary steps and 32 of initialisation": to the registers that were loaded, if any key leads here
 unfoldable pub loadedOf : State → Registers
@@ -41,7 +41,7 @@ loadsAgain s iv = sameRegisters (load (keyOf s iv) iv) (loadedOf s)
 
 -- document 02, item 3: "The check looks for a key that opening accepts": and opening, by its own tests, accepts that key
 abbrev pub keyLeads : State → (iv : List ℕ) → Bool
-keyLeads s iv = loadsAgain s iv && opens (keyOf s iv) iv
+keyLeads s iv = loadsAgain s iv && openingAccepts (keyOf s iv) iv
 
 -- | 10 | no key of that size with that IV leads to this state |: the test, and the line of the table
 abbrev pub noKeyLeadsTest : State → (iv : List ℕ) → Test

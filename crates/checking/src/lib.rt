@@ -4,7 +4,7 @@ ghost use mathlib.Core.Bool.{_&&_};
 ghost use Rattle.generator.specs.Registers.{registersOf, withRegisters};
 ghost use Rattle.loading.specs.Loading.{load};
 ghost use Rattle.refusals.specs.Tests.{returned};
-ghost use Rattle.opening.specs.Opening.{opens};
+ghost use Rattle.opening.specs.Opening.{openingAccepts};
 ghost use Rattle.checking.specs.Checking.{loadedOf, sameWords, sameRegisters, testsBefore10, checked, checkedTarget};
 ghost use Rattle.checking.specs.CheckingLaws.{ChecksExactly};
 use answers::Answer;
@@ -82,7 +82,7 @@ fn is_loading(t: State, key: &[u8], iv: &[u8]) -> bool
 
 // Whether the registers are those that the key and the IV load, and opening accepts these.
 fn leads(t: State, key: &[u8], iv: &[u8]) -> bool
-    ensures { λ r. ⌜ r ≡ (sameRegisters (load (now (key .entry)) (now (iv .entry))) (registersOf t) && opens (now (key .entry)) (now (iv .entry))) ⌝ }
+    ensures { λ r. ⌜ r ≡ (sameRegisters (load (now (key .entry)) (now (iv .entry))) (registersOf t) && openingAccepts (now (key .entry)) (now (iv .entry))) ⌝ }
 {
     if is_loading(t, key, iv) {
         let number = opening_number(key, iv);

@@ -47,11 +47,11 @@ openingLines key iv = keyLengthLine key ∷ ivLengthLine iv ∷ zeroKeyLine key 
 abbrev pub opened : (key iv : List ℕ) → Answer
 opened key iv = answerOf (openingTests key iv) (openedState key iv) blank
 
--- whether opening accepts a key and an IV,
-abbrev pub opens : (key iv : List ℕ) → Bool
-opens key iv = eqb (opened key iv .number) accepted
+-- whether opening accepts a key and an IV, as a test
+abbrev pub openingAccepts : (key iv : List ℕ) → Bool
+openingAccepts key iv = eqb (opened key iv .number) accepted
 
--- and that they are strings of bytes which it accepts
+-- a key and an IV, strings of bytes, that opening accepts
 pub record OpeningAccepts (key iv : List ℕ) : Type 0 where
   pub key-bytes : Bytes key
   pub iv-bytes : Bytes iv

@@ -36,7 +36,7 @@ NoneApplies (line ∷ lines) = (line .When → ⊥) × NoneApplies lines
 
 -- a call that answers the number n, where these lines are tested in this order, and their numbers are these
 pub record RefusesInOrder (n : ℕ) (lines : List Line) (numbers : List ℕ) : Type 0 where
-  -- the call's tests as the papers list them, as in "Opening tests 1, 2"
+  -- the call's tests as the papers list them, as in "opening tests 1, 2, 14"
   pub order : numbersOf lines ≡ numbers
   -- the first that applies
   pub first : NumberOfFirst n lines

@@ -1,5 +1,5 @@
 -- `checking::leads` meets its contract: the comparison decides first, then opening's own number.
-use mathlib.Core.Path.{_≡_, sym, _∙_}
+use mathlib.Core.Path.{sym, _∙_}
 use borrow.Author.Needs.{needs}
 use Rattle.checking.proofs.leads.Statement.{statement}
 use Rattle.checking.proofs.leads.Tie as tie
