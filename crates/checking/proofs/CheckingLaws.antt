@@ -21,7 +21,7 @@ use Rattle.loading.proofs.LoadingLaws.{loading-laws}
 use Rattle.refusals.specs.Numbers.{accepted, refusedNoKeyLeads}
 use Rattle.refusals.specs.Tests.{returned}
 use Rattle.refusals.specs.Lines.{NoneApplies}
-use Rattle.refusals.proofs.Tests.{and-true}
+use Rattle.refusals.proofs.Tests.{and-parts}
 use Rattle.refusals.proofs.Lines.{Decides, DecideAll, first-line, none-applies, decide-append, writes-nothing}
 use Rattle.answers.specs.Tests.{WellFormed}
 use Rattle.answers.proofs.Lines.{refuses-exactly, iv-length-decides, state-decides, key-target-decides}
@@ -71,7 +71,7 @@ module _ (s : State) (iv : List ℕ) (words : EighteenWords (registersOf s)) (by
   unfolding loadedOf registersAt
   found-leads e =
       let n = s .position / 8 in
-      let both = and-true (loadsAgain s iv) (openingAccepts (keyOf s iv) iv) e in
+      let both = and-parts (loadsAgain s iv) (openingAccepts (keyOf s iv) iv) e in
       record {
         opening = record { key-bytes = found-bytes s iv; iv-bytes = bytes; opens = eqb-true (opened (keyOf s iv) iv .number) accepted (both .1) };
         size = key-of-size (fits .size) (found-length s iv) .1;
@@ -181,8 +181,8 @@ module _ (s : State) (iv target : List ℕ) (bytes : Bytes iv) (none : NoneAppli
 
 -- ---- what loads as the key of zeros
 
-module _ (x : ℕ) (key iv : List ℕ) where
-  alike-accepted : KeyAndIv key iv → length key ≡ 64 → ChangedBy x (zeros 64) (zeros 32) key iv → (x ≡ 0 → ⊥) → OpeningAccepts key iv
+module _ (x : ℕ) (key iv iv₀ : List ℕ) where
+  alike-accepted : KeyAndIv key iv → length key ≡ 64 → ChangedBy x (zeros 64) iv₀ key iv → (x ≡ 0 → ⊥) → OpeningAccepts key iv
   unfolding wordOf
   alike-accepted o long changed not-0 = by (allZero key) refl
     where
@@ -192,18 +192,16 @@ module _ (x : ℕ) (key iv : List ℕ) where
           absurd (not-0 (sym (sym (ap (λ (k : List ℕ). wordOf k 4) same) ∙ changed .key-words 4 (lit< tt) ∙ xor-zero-l x)))
       by false e = let place = some-byte key e in opening-laws .opening-accepts key iv o (place .0) (place .1 .1)
 
-  alike-refused : (s : State) (target : List ℕ) → length key ≡ 64 → ChangedBy x (zeros 64) (zeros 32) key iv → Leads key iv s
-      → NoneApplies (linesBefore10 s (zeros 32) (length target))
-      → (checked s (zeros 32) target ≡ record { number = 10; state = s }) × (checkedTarget s (zeros 32) target ≡ target)
+  alike-refused : (s : State) (target : List ℕ) → Bytes iv₀ → length key ≡ 64 → ChangedBy x (zeros 64) iv₀ key iv → Leads key iv s
+      → NoneApplies (linesBefore10 s iv₀ (length target)) → (checked s iv₀ target ≡ record { number = 10; state = s }) × (checkedTarget s iv₀ target ≡ target)
   unfolding registersAt
-  alike-refused s target long changed l none =
+  alike-refused s target bytes long changed l none =
       let n = s .position / 8 in
       let size : 64 ≡ s .size / 8 = omega (arith, l .size, long) in
-      let loaded = loading-laws .loads-alike-512 x (zeros 64) (zeros 32) key iv refl long changed in
-      let registers : registersOf s ≡ registersAt (zeros 64) (zeros 32) n =
+      let loaded = loading-laws .loads-alike-512 x (zeros 64) iv₀ key iv refl long changed in
+      let registers : registersOf s ≡ registersAt (zeros 64) iv₀ n =
       l .registers ∙ ap (λ (r : Registers). iterate (next Ordinary) n (initialised r)) (sym loaded) in
-      zero-key-refused s (zeros 32) target (λ j. rw (zeros-at 32 j) (omega arith)) none
-      (subst (λ (m : ℕ). registersOf s ≡ registersAt (zeros m) (zeros 32) n) size registers)
+      zero-key-refused s iv₀ target bytes none (subst (λ (m : ℕ). registersOf s ≡ registersAt (zeros m) iv₀ n) size registers)
 
 refuses : CheckingRefusals
 refuses s iv target words bytes =

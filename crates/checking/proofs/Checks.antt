@@ -22,7 +22,7 @@ use Rattle.answers.specs.Tests.{ivLengthTest, sizeMarkTest, positionTest, keyTa
 use Rattle.checking.specs.Checking.{loadedOf, keyOf, sameWords, sameRegisters, keyLeads, noKeyLeadsTest, testsBefore10, checkingTests, checked, checkedTarget}
 use Rattle.opening.specs.Opening.{openingAccepts}
 use Rattle.opening.proofs.Opened.{key-of-size, key-le}
-use Rattle.refusals.proofs.Tests.{and-true, is-one-of, returned-first, returned-rest, returned-none, written-refused, written-accepted}
+use Rattle.refusals.proofs.Tests.{and-parts, is-one-of, returned-first, returned-rest, returned-none, written-refused, written-accepted}
 use Rattle.answers.proofs.Tests.{answer-refused, answer-accepted}
 
 -- ---- the tests that ask nothing of the registers
@@ -72,7 +72,7 @@ words-same : (xs ys : List ℕ) → sameWords xs ys ≡ true → xs ≡ ys
 words-same [] [] e = refl
 words-same [] (y ∷ ys) e = absurd (true≢false (sym e))
 words-same (x ∷ xs) [] e = absurd (true≢false (sym e))
-words-same (x ∷ xs) (y ∷ ys) e = let p = and-true (eqb x y) (sameWords xs ys) e in ap₂ _∷_ (eqb-true x y (p .0)) (words-same xs ys (p .1))
+words-same (x ∷ xs) (y ∷ ys) e = let p = and-parts (eqb x y) (sameWords xs ys) e in ap₂ _∷_ (eqb-true x y (p .0)) (words-same xs ys (p .1))
 
 same-words : (xs : List ℕ) → sameWords xs xs ≡ true
 same-words [] = refl
@@ -82,8 +82,8 @@ same-words (x ∷ xs) = rw (eq-eqb x x refl) (same-words xs)
 pub registers-same : (a b : Registers) → sameRegisters a b ≡ true → a ≡ b
 unfolding sameRegisters
 registers-same a b e =
-    let p = and-true (eqb (a .r1) (b .r1)) (eqb (a .r2) (b .r2) && sameWords (a .cells) (b .cells)) e in
-    let q = and-true (eqb (a .r2) (b .r2)) (sameWords (a .cells) (b .cells)) (p .1) in
+    let p = and-parts (eqb (a .r1) (b .r1)) (eqb (a .r2) (b .r2) && sameWords (a .cells) (b .cells)) e in
+    let q = and-parts (eqb (a .r2) (b .r2)) (sameWords (a .cells) (b .cells)) (p .1) in
     made (words-same (a .cells) (b .cells) (q .1)) (eqb-true (a .r1) (b .r1) (p .0)) (eqb-true (a .r2) (b .r2) (q .0))
   where
     made : {c c′ : List ℕ} {x x′ y y′ : ℕ} → c ≡ c′ → x ≡ x′ → y ≡ y′ → _≡_ {A = Registers} (record { cells = c; r1 = x; r2 = y }) (record { cells = c′; r1 = x′; r2 = y′ })

@@ -61,10 +61,11 @@ pub record CheckingLaws : Type 0 where
       (s : State) (iv target : List ℕ) → Bytes iv → NoneApplies (linesBefore10 s iv (length target))
       → registersOf s ≡ registersAt (zeros (s .size / 8)) iv (s .position / 8)
       → (checked s iv target ≡ record { number = 10; state = s }) × (checkedTarget s iv target ≡ target)
-  -- the 512-bit keys and IVs that load what the key of zeros loads with an IV of zeros: all words 0 but K4 = IV3 = IV1 = x. Where x is not 0, opening
-  -- accepts them, so `leads-checked` says of a state to which they lead that the check with that IV hands back the key; with an IV of zeros it is refused
-  pub alike-accepted : (x : ℕ) (key iv : List ℕ) → KeyAndIv key iv → length key ≡ 64 → ChangedBy x (zeros 64) (zeros 32) key iv → (x ≡ 0 → ⊥) → OpeningAccepts key iv
+  -- the 512-bit keys that load, with an IV, what the key of zeros loads with another, iv₀: with all words 0 but K4 = IV3 = IV1 = x, as the key of zeros with an
+  -- IV of zeros. Where x is not 0, opening accepts them, so `leads-checked` says of a state to which they lead that the check with their IV hands back the
+  -- key; with iv₀ it is refused
+  pub alike-accepted : (x : ℕ) (key iv iv₀ : List ℕ) → KeyAndIv key iv → length key ≡ 64 → ChangedBy x (zeros 64) iv₀ key iv → (x ≡ 0 → ⊥) → OpeningAccepts key iv
   pub alike-refused :
-      (x : ℕ) (key iv : List ℕ) (s : State) (target : List ℕ) → length key ≡ 64 → ChangedBy x (zeros 64) (zeros 32) key iv → Leads key iv s
-      → NoneApplies (linesBefore10 s (zeros 32) (length target))
-      → (checked s (zeros 32) target ≡ record { number = 10; state = s }) × (checkedTarget s (zeros 32) target ≡ target)
+      (x : ℕ) (key iv iv₀ : List ℕ) (s : State) (target : List ℕ) → Bytes iv₀ → length key ≡ 64 → ChangedBy x (zeros 64) iv₀ key iv → Leads key iv s
+      → NoneApplies (linesBefore10 s iv₀ (length target))
+      → (checked s iv₀ target ≡ record { number = 10; state = s }) × (checkedTarget s iv₀ target ≡ target)

@@ -14,7 +14,7 @@ use Rattle.loading.specs.WorkedTable.{zeros}
 use Rattle.framing.specs.declared.RefusalLine.{RefusalLine}
 use Rattle.framing.specs.Framing.{refusalLine, inFront}
 
--- the array as it is made
+-- the array with its first eight bytes
 abbrev begun : List ℕ
 begun = ascii "refused " ++ zeros 21
 
@@ -52,17 +52,21 @@ module _ (number k : ℕ) (h : number < 2 ^ 64) (fewest : Fewest 10 1 number k) 
         ∙ ap (λ (l : List ℕ). ascii "refused " ++ l) (sym (append-assoc ds (10 ∷ []) (drop (suc k) (zeros 21))))
         ∙ ap₂ (λ (l m : List ℕ). (ascii "refused " ++ (l ++ ascii "\n")) ++ m) is-decimal rest
 
-    is-line : {mid : List ℕ} → mid ≡ take (length ds) ds ++ drop (length ds) (midOf 8 (8 + k - 8) begun)
-        → _≡_ {A = RefusalLine} (record { bytes = set (putMid 8 (8 + k - 8) begun mid) (8 + k) 10; count = 8 + k + 1 }) (inFront (refusalLine number))
-    is-line e =
-        let part : 8 + k - 8 ≡ k = omega arith in
-        ap₂ (λ (l : List ℕ) (n : ℕ). record { bytes = l; count = n })
-        (ap₂ (λ (l : List ℕ) (n : ℕ). set (ascii "refused " ++ (l ++ drop n (zeros 21))) (8 + k) 10) (copied e) part ∙ bytes-made)
-        (omega (arith, line-length))
+    -- the array, once its first eight bytes are written, and then these
+    module _ {array mid : List ℕ} (first : array ≡ begun) (e : mid ≡ take (length ds) ds ++ drop (length ds) (midOf 8 (8 + k - 8) array)) where
+      abbrev left : RefusalLine
+      left = record { bytes = set (putMid 8 (8 + k - 8) array mid) (8 + k) 10; count = 8 + k + 1 }
 
-    pub line-made : {mid : List ℕ} → mid ≡ take (length ds) ds ++ drop (length ds) (midOf 8 (8 + k - 8) begun)
-        → let r : RefusalLine = record { bytes = set (putMid 8 (8 + k - 8) begun mid) (8 + k) 10; count = 8 + k + 1 } in
-        (r ≡ inFront (refusalLine number)) × Counts (r .count) (r .bytes)
-    line-made e =
-        let made = is-line e in
-        (made, subst (λ (r : RefusalLine). Counts (r .count) (r .bytes)) (sym made) (counts (refusalLine number) (omega (arith, line-length, few))))
+      is-line : left ≡ inFront (refusalLine number)
+      is-line =
+          let part : 8 + k - 8 ≡ k = omega arith in
+          let held : mid ≡ ds = copied (e ∙ ap (λ (l : List ℕ). take (length ds) ds ++ drop (length ds) (midOf 8 (8 + k - 8) l)) first) in
+          ap₂ (λ (l : List ℕ) (n : ℕ). record { bytes = l; count = n })
+          (
+          ap (λ (l : List ℕ). set (putMid 8 (8 + k - 8) l mid) (8 + k) 10) first
+          ∙ ap₂ (λ (l : List ℕ) (n : ℕ). set (ascii "refused " ++ (l ++ drop n (zeros 21))) (8 + k) 10) held part ∙ bytes-made
+          )
+          (omega (arith, line-length))
+
+      pub line-made : (left ≡ inFront (refusalLine number)) × Counts (left .count) (left .bytes)
+      line-made = (is-line, subst (λ (r : RefusalLine). Counts (r .count) (r .bytes)) (sym is-line) (counts (refusalLine number) (omega (arith, line-length, few))))

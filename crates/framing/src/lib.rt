@@ -74,38 +74,9 @@ pub fn refusal_line(number: u64) -> RefusalLine
 {
     let mut digits = [0u8; 20];
     let k = io::decimal(number, &mut digits);
-    let mut bytes = [
-        b'r',
-        b'e',
-        b'f',
-        b'u',
-        b's',
-        b'e',
-        b'd',
-        b' ',
-        0,
-        0,
-        0,
-        0,
-        0,
-        0,
-        0,
-        0,
-        0,
-        0,
-        0,
-        0,
-        0,
-        0,
-        0,
-        0,
-        0,
-        0,
-        0,
-        0,
-        0,
-    ];
     let end = 8 + k;
+    let mut bytes = [0u8; 29];
+    bytes::copy(b"refused ", &mut bytes[..8]);
     bytes::copy(&digits[..k], &mut bytes[8..end]);
     bytes[end] = b'\n';
     RefusalLine {

@@ -6,7 +6,7 @@ use mathlib.Core.List.{List, [], _∷_, map, reverse, reverse-reverse}
 use Prim.Native.Nat.{ℕ, zero, suc, _*_, _/_, _^_, _<_}
 use native.Mathlib.Numerals.{add-one}
 use native.Mathlib.Omega.{arith}
-use lib.Bits.{bitXor, xor-self, xor-zero-r}
+use lib.Bits.{bitXor, xor-lt, xor-self, xor-zero-r}
 use lib.Dec.{T, eqb, ltb, ltb→lt, lit<}
 use lib.ListN.{length, length-map, length-reverse}
 use Rattle.galois.specs.Words.{at}
@@ -18,10 +18,10 @@ use Rattle.generator.specs.GeneratorLaws.{UndoneBy}
 use Rattle.generator.proofs.Iterate.{undone-compose}
 use Rattle.generator.proofs.GeneratorLaws.{generator-laws}
 use Rattle.loading.specs.Loading.{Bytes, KeyAndIv, wordOf, Row, rowsOf, loadedCell, loadedCells, sizeMark, load, initialSteps, initialised, registersAt}
-use Rattle.loading.specs.Recovery.{loadedFrom, recoveredWord, recoveredKey}
+use Rattle.loading.specs.Recovery.{loadedFrom, recoveredWord, stringOf, recoveredKey}
 use Rattle.loading.specs.LoadingLaws.{OneToOneInBoth, ChangedBy, LoadingLaws}
 use Rattle.loading.specs.WorkedTable.{zeros, key11, iv11}
-use Rattle.loading.proofs.Strings.{reverse-lt, wordOf-lt, stringOf-length, stringOf-bytes, stringOf-ext, stringOf-wordOf, string-ext}
+use Rattle.loading.proofs.Strings.{reverse-lt, wordOf-lt, stringOf-length, stringOf-bytes, stringOf-ext, wordOf-stringOf, stringOf-wordOf, string-ext}
 use Rattle.loading.proofs.Rows.{holdsKey, holdsKeyAlone, holdsIv, someRow, same-key, same-iv, loadedCell-lt}
 use Rattle.loading.proofs.Recovered.{recovers-word}
 
@@ -161,6 +161,35 @@ loads-alike-512 x key iv key′ iv′ l l′ c =
       xor-both (wordOf key 4) (wordOf iv 1) x,
     ))
 
+changed-512 : (x : ℕ) (key iv : List ℕ) → x < 2 ^ 64 → KeyAndIv key iv → length key ≡ 64
+    → (key′ : List ℕ) × ((iv′ : List ℕ) × (KeyAndIv key′ iv′ × ((length key′ ≡ 64) × ChangedBy x key iv key′ iv′)))
+changed-512 x key iv h o long = (
+  stringOf 64 k,
+  (
+    stringOf 32 v,
+    (
+      record { key-bytes = stringOf-bytes 64 k; key-length = inr (stringOf-length 64 k); iv-bytes = stringOf-bytes 32 v; iv-length = stringOf-length 32 v },
+      (
+        stringOf-length 64 k,
+        record {
+          key-words = λ i l. wordOf-stringOf 64 k i (omega arith) (either (eqb i 4) (wordOf key i) (wordOf-lt key (o .key-bytes) i));
+          iv-words = λ j l. wordOf-stringOf 32 v j (omega arith) (either (eqb j 3 || eqb j 1) (wordOf iv j) (wordOf-lt iv (o .iv-bytes) j));
+        },
+      ),
+    ),
+  ),
+)
+  where
+    k : ℕ → ℕ
+    k i = cond (eqb i 4) (bitXor (wordOf key i) x) (wordOf key i)
+
+    v : ℕ → ℕ
+    v j = cond (eqb j 3 || eqb j 1) (bitXor (wordOf iv j) x) (wordOf iv j)
+
+    either : (b : Bool) (w : ℕ) → w < 2 ^ 64 → cond b (bitXor w x) w < 2 ^ 64
+    either true w l = xor-lt 64 w x l h
+    either false w l = l
+
 -- ---- and after n steps
 
 walk-back-undoes : (n : ℕ) → UndoneBy (loadedFrom n) (λ r. iterate (next Ordinary) n (initialised r))
@@ -195,6 +224,7 @@ loading-laws =
       one-to-one-in-both-256 = one-to-one-in-both-256;
       not-one-to-one-in-both-512 = not-one-to-one-in-both-512;
       loads-alike-512 = loads-alike-512;
+      changed-512 = changed-512;
       walk-back-undoes = walk-back-undoes;
       walk-back-undone = walk-back-undone;
       registers-one-to-one-in-key = λ key key′ iv o o′ z n e. one-to-one-in-key key key′ iv o o′ z (loaded-alike key iv key′ iv o o′ n e);

@@ -1,5 +1,5 @@
 -- Strings of bytes read from their end, and the words in them: one is known by the other.
-use mathlib.Core.Path.{_≡_, refl, sym, ap, _∙_}
+use mathlib.Core.Path.{_≡_, refl, sym, ap, ap₂, _∙_}
 use mathlib.Core.Bool.{Bool, true, false}
 use mathlib.Core.List.{List, [], _∷_, _++_, reverse, reverseAux, reverse-cons, reverse-reverse}
 use Prim.Native.Nat.{ℕ, zero, suc, _+_, _-_, _*_, _/_, _%_, _^_, _≤_, _<_}
@@ -9,7 +9,7 @@ use lib.Dec.{ltb, lit<}
 use lib.ListN.{length, length-reverse, List·getD-append, List·getD-eq-default}
 use lib.Seq.{ext-getD, getD-at}
 use Rattle.galois.specs.Words.{byte, tabulate, at}
-use Rattle.galois.proofs.Bytes.{tabulate-at, tabulate-length, byte-lt, byte-word, word-lt}
+use Rattle.galois.proofs.Bytes.{tabulate-at, tabulate-length, byte-lt, byte-word, word-ext, word-byte, word-lt}
 use Rattle.galois.proofs.Spread.{tabulate-ext}
 use Rattle.loading.specs.Loading.{Bytes, wordByte, wordOf}
 use Rattle.loading.specs.Recovery.{stringByte, stringOf}
@@ -92,6 +92,18 @@ pub stringOf-ext : (n : ℕ) (k k′ : ℕ → ℕ) → ((i : ℕ) → 8 * i < n
 unfolding stringOf
 stringOf-ext n k k′ h =
     ap reverse (tabulate-ext n (stringByte k) (stringByte k′) (λ p l. ap (λ (w : ℕ). byte w (p % 8)) (h (p / 8) (omega arith))))
+
+-- its words are these
+pub wordOf-stringOf : (n : ℕ) (k : ℕ → ℕ) (i : ℕ) → 8 * i + 8 ≤ n → k i < 2 ^ 64 → wordOf (stringOf n k) i ≡ k i
+unfolding wordOf stringOf
+wordOf-stringOf n k i h lt = word-ext 8 (wordByte (stringOf n k) i) (byte (k i)) (λ j l. place j l) ∙ word-byte 8 (k i) lt
+  where
+    place : (j : ℕ) → j < 8 → wordByte (stringOf n k) i j ≡ byte (k i) j
+    place j l =
+        let word : (8 * i + j) / 8 ≡ i = omega arith in
+        let left : (8 * i + j) % 8 ≡ j = omega arith in
+        ap (λ (bytes : List ℕ). at bytes (8 * i + j)) (reverse-reverse (tabulate n (stringByte k)))
+        ∙ tabulate-at 0 n (stringByte k) (8 * i + j) (omega arith) ∙ ap₂ (λ (a b : ℕ). byte (k a) b) word left
 
 -- a string is that of its words
 pub stringOf-wordOf : (l : List ℕ) → Bytes l → stringOf (length l) (wordOf l) ≡ l

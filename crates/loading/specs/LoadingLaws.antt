@@ -2,7 +2,7 @@
 use mathlib.Core.Path.{_≡_}
 use mathlib.Core.Bool.{cond, _||_}
 use mathlib.Core.List.{List, [], _∷_, reverse}
-use Prim.Native.Nat.{ℕ, _*_, _<_}
+use Prim.Native.Nat.{ℕ, _*_, _^_, _<_}
 use lib.Bits.{bitXor}
 use lib.Dec.{eqb}
 use lib.ListN.{length}
@@ -18,7 +18,7 @@ abbrev pub OneToOneInBoth : ℕ → Type 0
 OneToOneInBoth size =
     (key iv key′ iv′ : List ℕ) → KeyAndIv key iv → KeyAndIv key′ iv′ → sizeMark key ≡ size → sizeMark key′ ≡ size → load key iv ≡ load key′ iv′ → (key ≡ key′) × (iv ≡ iv′)
 
--- another key and IV of 512 and 256 bits, whose words are those of the first, but K4, IV3 and IV1, all three ⊕ x
+-- the words of another key of 512 bits and its IV are those of the first, but K4, IV3 and IV1, all three ⊕ x
 pub record ChangedBy (x : ℕ) (key iv key′ iv′ : List ℕ) : Type 0 where
   pub key-words : (i : ℕ) → i < 8 → wordOf key′ i ≡ cond (eqb i 4) (bitXor (wordOf key i) x) (wordOf key i)
   pub iv-words : (j : ℕ) → j < 4 → wordOf iv′ j ≡ cond (eqb j 3 || eqb j 1) (bitXor (wordOf iv j) x) (wordOf iv j)
@@ -51,6 +51,10 @@ pub record LoadingLaws : Type 0 where
   pub not-one-to-one-in-both-512 : OneToOneInBoth 512 → ⊥
   -- "In the 512 form, K4 stands only together with IV3 or IV1.": changed by the same word they load alike
   pub loads-alike-512 : (x : ℕ) (key iv key′ iv′ : List ℕ) → length key ≡ 64 → length key′ ≡ 64 → ChangedBy x key iv key′ iv′ → load key iv ≡ load key′ iv′
+  -- and for every word x there are such
+  pub changed-512 :
+      (x : ℕ) (key iv : List ℕ) → x < 2 ^ 64 → KeyAndIv key iv → length key ≡ 64
+      → (key′ : List ℕ) × ((iv′ : List ℕ) × (KeyAndIv key′ iv′ × ((length key′ ≡ 64) × ChangedBy x key iv key′ iv′)))
   -- the walk back undoes the way from the loaded registers to those after n steps, and is undone by it, for every n
   pub walk-back-undoes : (n : ℕ) → UndoneBy (loadedFrom n) (λ r. iterate (next Ordinary) n (initialised r))
   pub walk-back-undone : (n : ℕ) → UndoneBy (λ r. iterate (next Ordinary) n (initialised r)) (loadedFrom n)

@@ -1,18 +1,39 @@
 -- The laws of opening that specs/OpeningLaws.antt states.
 use mathlib.Core.Path.{_≡_, refl, sym, _∙_, subst}
+use mathlib.Core.Logic.{_⊎_, inl, inr}
 use mathlib.Core.List.{List, [], _∷_}
 use Prim.Native.Nat.{ℕ, _/_}
+use borrow.Author.Tests.{ne-eqb}
+use lib.ListN.{length, length-replicate}
 use Rattle.generator.specs.declared.State.{State}
 use Rattle.loading.specs.Loading.{sizeMark}
+use Rattle.loading.specs.WorkedTable.{zeros}
 use Rattle.loading.proofs.LoadingLaws.{loading-laws, size-of}
 use Rattle.refusals.specs.Numbers.{accepted}
-use Rattle.refusals.proofs.Tests.{one-of}
+use Rattle.refusals.proofs.Tests.{one-of, none-of}
 use Rattle.answers.specs.Tests.{WellFormed}
 use Rattle.answers.proofs.Lines.{refuses-exactly, key-length-decides, iv-length-decides}
 use Rattle.opening.specs.Opening.{blank, openedState, openingTests, openingLines, opened, OpeningAccepts, Leads}
 use Rattle.opening.specs.OpeningLaws.{OpeningLaws}
-use Rattle.opening.proofs.Zeros.{zero-key-decides}
+use Rattle.opening.proofs.Zeros.{zero-key-decides, zeros-all-zero}
 use Rattle.opening.proofs.Opened.{key-length, key-and-iv, not-zero, key-and-iv-open}
+
+-- ---- what is refused
+
+gives-1 : (key iv : List ℕ) → (length key ≡ 32 → ⊥) → (length key ≡ 64 → ⊥) → opened key iv ≡ record { number = 1; state = blank }
+gives-1 key iv h h′ = rw (none-of (length key) 32 64 (neither h h′))
+  where
+    neither : (length key ≡ 32 → ⊥) → (length key ≡ 64 → ⊥) → (length key ≡ 32) ⊎ (length key ≡ 64) → ⊥
+    neither h h′ (inl e) = h e
+    neither h h′ (inr e) = h′ e
+
+gives-2 : (key iv : List ℕ) → (length key ≡ 32) ⊎ (length key ≡ 64) → (length iv ≡ 32 → ⊥) → opened key iv ≡ record { number = 2; state = blank }
+gives-2 key iv l h = rw (one-of (length key) 32 64 l, ne-eqb (length iv) 32 h)
+
+gives-14 : (n : ℕ) (iv : List ℕ) → (n ≡ 32) ⊎ (n ≡ 64) → length iv ≡ 32 → opened (zeros n) iv ≡ record { number = 14; state = blank }
+gives-14 n iv l e = rw (length-replicate {A = ℕ} n 0, one-of n 32 64 l, e, zeros-all-zero n)
+
+-- ---- what is accepted
 
 module _ (key iv : List ℕ) (e : opened key iv .number ≡ accepted) where
   opened-state : opened key iv .state ≡ openedState key iv
@@ -40,6 +61,9 @@ opening-laws =
           (key-length-decides key, λ t1. (iv-length-decides iv, λ t2. (zero-key-decides key, λ t14. tt)));
       opening-accepts = λ key iv. key-and-iv-open;
       opening-accepts-only = λ key iv o. (key-and-iv o, not-zero o);
+      gives-1 = gives-1;
+      gives-2 = gives-2;
+      gives-14 = gives-14;
       opened-leads = opened-leads;
       opened-well-formed = opened-well-formed;
       opened-position = opened-position;

@@ -1,6 +1,6 @@
 -- Bytes that are all 0: the test, and the loop that computes it.
-use mathlib.Core.Path.{_≡_, refl, ap₂}
-use mathlib.Core.Bool.{Bool, true, false, true≢false, _&&_}
+use mathlib.Core.Path.{_≡_, refl, sym, ap₂}
+use mathlib.Core.Bool.{Bool, true, false, true≢false, _&&_, and-true, and-assoc}
 use mathlib.Core.List.{List, [], _∷_}
 use Prim.Native.Nat.{ℕ, zero, suc, _<_, _≤_}
 use native.Mathlib.Omega.{arith}
@@ -12,15 +12,15 @@ use lib.Seq.{drop-cons}
 use Rattle.galois.specs.Words.{at}
 use Rattle.loading.specs.WorkedTable.{zeros}
 use Rattle.opening.specs.Opening.{allZero, zeroKeyTest, zeroKeyLine}
-use Rattle.refusals.proofs.Tests.{and-true}
+use Rattle.refusals.proofs.Tests.{and-parts}
 use Rattle.refusals.proofs.Lines.{Decides}
 
 -- ---- the test
 
 pub all-zero-at : (bytes : List ℕ) → allZero bytes ≡ true → (j : ℕ) → at bytes j ≡ 0
 all-zero-at [] e j = refl
-all-zero-at (b ∷ bytes) e zero = eqb-true b 0 (and-true (eqb b 0) (allZero bytes) e .0)
-all-zero-at (b ∷ bytes) e (suc j) = all-zero-at bytes (and-true (eqb b 0) (allZero bytes) e .1) j
+all-zero-at (b ∷ bytes) e zero = eqb-true b 0 (and-parts (eqb b 0) (allZero bytes) e .0)
+all-zero-at (b ∷ bytes) e (suc j) = all-zero-at bytes (and-parts (eqb b 0) (allZero bytes) e .1) j
 
 pub not-all-zero : (bytes : List ℕ) (j : ℕ) → (at bytes j ≡ 0 → ⊥) → allZero bytes ≡ false
 not-all-zero bytes j h = by (allZero bytes) refl
@@ -47,8 +47,12 @@ zero-key-decides key =
 pub all-zero-zeros : (bytes : List ℕ) → allZero bytes ≡ true → bytes ≡ zeros (length bytes)
 all-zero-zeros [] e = refl
 all-zero-zeros (b ∷ bytes) e =
-    let both = and-true (eqb b 0) (allZero bytes) e in
+    let both = and-parts (eqb b 0) (allZero bytes) e in
     ap₂ _∷_ (eqb-true b 0 (both .0)) (all-zero-zeros bytes (both .1))
+
+pub zeros-all-zero : (n : ℕ) → allZero (zeros n) ≡ true
+zeros-all-zero zero = refl
+zeros-all-zero (suc n) = zeros-all-zero n
 
 -- each byte of zeros
 pub zeros-at : (n j : ℕ) → at (zeros n) j ≡ 0
@@ -66,18 +70,10 @@ or-zero a b = by (eqb a 0) refl
     by true e = rw (eqb-true a 0 e, or-zero-l b)
     by false e = ne-eqb (bitOr a b) 0 (λ z. eqb-false a 0 e (omega (arith, z, or-add-and a b, and-le-r a b)))
 
-and-assoc : (a b c : Bool) → (a && (b && c)) ≡ ((a && b) && c)
-and-assoc true b c = refl
-and-assoc false b c = refl
-
-and-end : (a : Bool) → (a && true) ≡ a
-and-end true = refl
-and-end false = refl
-
 module _ (bytes : List ℕ) (bits i : ℕ) where
   -- the bits of the byte at i, with those before it
   pub one-byte-more : i < length bytes → (eqb bits 0 && allZero (drop i bytes)) ≡ (eqb (bitOr bits (at bytes i)) 0 && allZero (drop (suc i) bytes))
-  one-byte-more h = rw (drop-cons bytes i 0 h, or-zero bits (at bytes i)) (and-assoc (eqb bits 0) (eqb (at bytes i) 0) (allZero (drop (suc i) bytes)))
+  one-byte-more h = rw (drop-cons bytes i 0 h, or-zero bits (at bytes i)) (sym (and-assoc (eqb bits 0) (eqb (at bytes i) 0) (allZero (drop (suc i) bytes))))
 
   pub no-byte-more : length bytes ≤ i → (eqb bits 0 && allZero (drop i bytes)) ≡ eqb bits 0
-  no-byte-more h = rw (drop-of-length-le bytes {i = i} h) (and-end (eqb bits 0))
+  no-byte-more h = rw (drop-of-length-le bytes {i = i} h) (and-true (eqb bits 0))

@@ -1,10 +1,13 @@
 -- What is proved of opening: proofs/OpeningLaws.antt has `opening-laws : OpeningLaws`.
 use mathlib.Core.Path.{_≡_}
+use mathlib.Core.Logic.{_⊎_}
 use mathlib.Core.List.{List, [], _∷_}
 use Prim.Native.Nat.{ℕ}
+use lib.ListN.{length}
 use Rattle.galois.specs.Words.{at}
 use Rattle.generator.specs.declared.State.{State}
 use Rattle.loading.specs.Loading.{KeyAndIv, sizeMark, registersAt}
+use Rattle.loading.specs.WorkedTable.{zeros}
 use Rattle.refusals.specs.Numbers.{accepted}
 use Rattle.refusals.specs.Tests.{returned}
 use Rattle.answers.specs.Tests.{stateTests, WellFormed}
@@ -27,6 +30,10 @@ pub record OpeningLaws : Type 0 where
   -- opening accepts just the keys of 256 or 512 bits that have a byte other than 0, at any place, with an IV of 256
   pub opening-accepts : (key iv : List ℕ) → KeyAndIv key iv → (j : ℕ) → (at key j ≡ 0 → ⊥) → OpeningAccepts key iv
   pub opening-accepts-only : (key iv : List ℕ) → OpeningAccepts key iv → KeyAndIv key iv × ((j : ℕ) × (at key j ≡ 0 → ⊥))
+  -- what is refused, with which number, each whatever the later tests would say: so a key of zeros with an IV of 31 bytes gives 2
+  pub gives-1 : (key iv : List ℕ) → (length key ≡ 32 → ⊥) → (length key ≡ 64 → ⊥) → opened key iv ≡ record { number = 1; state = blank }
+  pub gives-2 : (key iv : List ℕ) → (length key ≡ 32) ⊎ (length key ≡ 64) → (length iv ≡ 32 → ⊥) → opened key iv ≡ record { number = 2; state = blank }
+  pub gives-14 : (n : ℕ) (iv : List ℕ) → (n ≡ 32) ⊎ (n ≡ 64) → length iv ≡ 32 → opened (zeros n) iv ≡ record { number = 14; state = blank }
   -- a key leads to the state that it opens, which is well-formed and stands at position 0
   pub opened-leads : (key iv : List ℕ) → OpeningAccepts key iv → Leads key iv (opened key iv .state)
   pub opened-well-formed : (key iv : List ℕ) → opened key iv .number ≡ accepted → WellFormed (opened key iv .state)

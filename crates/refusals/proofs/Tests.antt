@@ -12,9 +12,9 @@ use Rattle.refusals.specs.Tests.{Test, returned, written}
 
 -- ---- two tests
 
-pub and-true : (a b : Bool) → (a && b) ≡ true → (a ≡ true) × (b ≡ true)
-and-true true b e = (refl, e)
-and-true false b e = absurd (true≢false (sym e))
+pub and-parts : (a b : Bool) → (a && b) ≡ true → (a ≡ true) × (b ≡ true)
+and-parts true b e = (refl, e)
+and-parts false b e = absurd (true≢false (sym e))
 
 -- ---- a number that is one of two
 
