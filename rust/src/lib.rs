@@ -173,8 +173,8 @@ impl State {
     /// key.
     ///
     /// Refused with 2 for an IV length other than 32, 3 or 4 for a state that is not well-formed,
-    /// 9 for a key target of a length other than size mark / 8, 10 where no key of that size with
-    /// that IV leads to the state, or only the key of zeros; the key target is then left as it was.
+    /// 9 for a key target of a length other than size mark / 8, 10 where no key of that size that an
+    /// opening accepts leads, with that IV, to the state; the key target is then left as it was.
     pub fn check(&self, iv: &[u8], key: &mut [u8]) -> Result<(), Refusal> {
         let state = self.words.as_ptr();
         let (key, key_len) = (key.as_mut_ptr(), key.len());
@@ -219,7 +219,7 @@ impl fmt::Display for Refusal {
             7 => "the new position would be above 16,777,216",
             8 => "the new position would be below 0",
             9 => "the key target length is not size mark / 8",
-            10 => "no key of that size with that IV leads to this state",
+            10 => "no key of that size that opening accepts leads, with that IV, to this state",
             14 => "the key is all zeros",
             _ => "unknown number",
         };
@@ -283,5 +283,23 @@ mod tests {
             assert_eq!(state.check(&[2; 32], &mut found), Ok(()));
             assert_eq!(found, key);
         }
+    }
+
+    /// With K4 = IV3 = IV1 = 1 and all other words zero a key loads what the key of zeros loads
+    /// with an IV of zeros: with that IV there is no key, and the target is left as it was.
+    #[test]
+    fn a_state_of_the_key_of_zeros() {
+        let (mut key, mut iv) = ([0; 64], [0; 32]);
+        key[31] = 1;
+        iv[7] = 1;
+        iv[23] = 1;
+        let mut state = State::opened(&key, &iv).unwrap();
+        assert_eq!(state.move_by(1000), Ok(()));
+
+        let mut found = [0xff; 64];
+        assert_eq!(state.check(&[0; 32], &mut found).unwrap_err().number(), 10);
+        assert_eq!(found, [0xff; 64]);
+        assert_eq!(state.check(&iv, &mut found), Ok(()));
+        assert_eq!(found, key);
     }
 }

@@ -13,10 +13,9 @@ use Rattle.galois.specs.Words.{at}
 use Rattle.generator.specs.declared.State.{State}
 use Rattle.generator.specs.declared.Kind.the-variants.{Ordinary}
 use Rattle.generator.specs.Registers.{Registers, EighteenWords, registersOf, next, iterate}
-use Rattle.loading.specs.Loading.{Bytes, KeyAndIv, wordOf, sizeMark, load, initialised, registersAt}
+use Rattle.loading.specs.Loading.{Bytes, zeros, KeyAndIv, wordOf, sizeMark, load, initialised, registersAt}
 use Rattle.loading.specs.Recovery.{loadedFrom, recoveredKey}
 use Rattle.loading.specs.LoadingLaws.{ChangedBy}
-use Rattle.loading.specs.WorkedTable.{zeros}
 use Rattle.loading.proofs.LoadingLaws.{loading-laws}
 use Rattle.refusals.specs.Numbers.{accepted, refusedNoKeyLeads}
 use Rattle.refusals.specs.Tests.{returned}
@@ -103,6 +102,10 @@ module _ (s : State) (iv target : List ℕ) where
       by true = refl
       by false = refl
 
+  -- the answer, by its number
+  answers : {n : ℕ} → checked s iv target .number ≡ n → checked s iv target ≡ record { number = n; state = s }
+  answers e = ap₂ (λ (k : ℕ) (x : State). record { number = k; state = x }) e unaltered
+
   module _ (words : EighteenWords (registersOf s)) (bytes : Bytes iv) where
     checking-decided : DecideAll (checkingTests s iv (length target)) (checkingLines s iv (length target))
     checking-decided =
@@ -144,7 +147,7 @@ leads-checked : (key iv : List ℕ) (s : State) (target : List ℕ) → Leads ke
 leads-checked key iv s target l ok e =
     let n : length target ≡ s .size / 8 = omega (arith, l .size) in
     let both = leads-accepted s iv target (all-fit s iv (length target) (key-and-iv (l .opening) .iv-length) ok n) key l in
-    (ap₂ (λ (k : ℕ) (x : State). record { number = k; state = x }) (both .0) (unaltered s iv target), both .1)
+    (answers s iv target (both .0), both .1)
 
 -- ---- the key of zeros
 
@@ -177,7 +180,7 @@ module _ (s : State) (iv target : List ℕ) (bytes : Bytes iv) (none : NoneAppli
     zero-key-refused : (checked s iv target ≡ record { number = 10; state = s }) × (checkedTarget s iv target ≡ target)
     zero-key-refused =
         let ten = stored-checked s iv target words bytes none .refuses no-key in
-        (ap₂ (λ (k : ℕ) (x : State). record { number = k; state = x }) (ten .0) (unaltered s iv target), ten .1)
+        (answers s iv target (ten .0), ten .1)
 
 -- ---- what loads as the key of zeros
 

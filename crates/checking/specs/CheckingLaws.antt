@@ -5,9 +5,8 @@ use Prim.Native.Nat.{ℕ, _/_}
 use lib.ListN.{length}
 use Rattle.generator.specs.declared.State.{State}
 use Rattle.generator.specs.Registers.{EighteenWords, registersOf}
-use Rattle.loading.specs.Loading.{Bytes, KeyAndIv, registersAt}
+use Rattle.loading.specs.Loading.{Bytes, zeros, KeyAndIv, registersAt}
 use Rattle.loading.specs.LoadingLaws.{ChangedBy}
-use Rattle.loading.specs.WorkedTable.{zeros}
 use Rattle.refusals.specs.Numbers.{accepted, refusedNoKeyLeads}
 use Rattle.refusals.specs.Lines.{NoneApplies}
 use Rattle.answers.specs.Tests.{WellFormed}
@@ -61,9 +60,9 @@ pub record CheckingLaws : Type 0 where
       (s : State) (iv target : List ℕ) → Bytes iv → NoneApplies (linesBefore10 s iv (length target))
       → registersOf s ≡ registersAt (zeros (s .size / 8)) iv (s .position / 8)
       → (checked s iv target ≡ record { number = 10; state = s }) × (checkedTarget s iv target ≡ target)
-  -- the 512-bit keys that load, with an IV, what the key of zeros loads with another, iv₀: with all words 0 but K4 = IV3 = IV1 = x, as the key of zeros with an
-  -- IV of zeros. Where x is not 0, opening accepts them, so `leads-checked` says of a state to which they lead that the check with their IV hands back the
-  -- key; with iv₀ it is refused
+  -- `ChangedBy x (zeros 64) iv₀ key iv`: a 512-bit key and IV that load what the key of zeros loads with iv₀; where iv₀ is all zero, K4 = IV3 = IV1 = x
+  -- and all other words are 0 (row 11). Where x is not 0, opening accepts the key, and `leads-checked` says that the check with its IV hands it back; with
+  -- iv₀ the state is refused
   pub alike-accepted : (x : ℕ) (key iv iv₀ : List ℕ) → KeyAndIv key iv → length key ≡ 64 → ChangedBy x (zeros 64) iv₀ key iv → (x ≡ 0 → ⊥) → OpeningAccepts key iv
   pub alike-refused :
       (x : ℕ) (key iv iv₀ : List ℕ) (s : State) (target : List ℕ) → Bytes iv₀ → length key ≡ 64 → ChangedBy x (zeros 64) iv₀ key iv → Leads key iv s

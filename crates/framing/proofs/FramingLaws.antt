@@ -32,6 +32,7 @@ use Rattle.opening.proofs.OpeningLaws.{opening-laws}
 use Rattle.framing.specs.Framing.{keyLengthIn, keyIn, ivIn, dataIn, started, refusalLine, dataOut, piecesOut, afterPieces, joined}
 use Rattle.framing.specs.FramingLaws.{headerLines, RefusedWith, FramingLaws}
 use Rattle.framing.proofs.Header.{header, header-alone, parts}
+use Rattle.framing.proofs.RefusalLines.{line-in-front}
 
 -- ---- a piece
 
@@ -138,11 +139,11 @@ refusal-line input refused = by (header input .in-order .first)
   where
     by : NumberOfFirst (started input .number) (headerLines input)
         → RefusedWith input 1 (ascii "refused 1\n") ⊎ (RefusedWith input 2 (ascii "refused 2\n") ⊎ RefusedWith input 14 (ascii "refused 14\n"))
-    by (inl length-1) = inl (length-1 .1, ap refusalLine (length-1 .1))
-    by (inr (_, inl length-2)) = inr (inl (length-2 .1, ap refusalLine (length-2 .1)))
-    by (inr (_, inr (_, inl zeros))) = inr (inr (zeros .1, ap refusalLine (zeros .1)))
+    by (inl key) = inl (key .1, ap refusalLine (key .1))
+    by (inr (_, inl iv)) = inr (inl (iv .1, ap refusalLine (iv .1)))
+    by (inr (_, inr (_, inl zero-key))) = inr (inr (zero-key .1, ap refusalLine (zero-key .1)))
     by (inr (_, inr (_, inr (_, none)))) = absurd (refused none)
 
 pub framing-laws : FramingLaws
 unfolding decimal
-framing-laws = record { parts = parts; header = header; refusal-line = refusal-line; refused-1 = refl; refused-2 = refl; refused-14 = refl; header-alone = header-alone; pieces = pieces; state-after = state-after }
+framing-laws = record { parts = parts; header = header; refusal-line = refusal-line; refused-1 = refl; refused-2 = refl; refused-14 = refl; line-in-front = line-in-front; header-alone = header-alone; pieces = pieces; state-after = state-after }

@@ -10,19 +10,25 @@ use Rattle.io.specs.Counts.{Counts}
 use Rattle.io.specs.Digits.{digits, Fewest}
 use Rattle.text.specs.Text.{ascii, decimal}
 use Rattle.text.proofs.Decimal.{fewest-digits}
-use Rattle.loading.specs.WorkedTable.{zeros}
+use Rattle.loading.specs.Loading.{zeros}
 use Rattle.framing.specs.declared.RefusalLine.{RefusalLine}
 use Rattle.framing.specs.Framing.{refusalLine, inFront}
+
+-- ---- a line at the front of 29 bytes
+
+pub line-in-front : (line : List ℕ) → take (inFront line .count) (inFront line .bytes) ≡ line
+line-in-front line = take-at line (drop (length line) (zeros 29)) (length line) refl
+
+counts : (line : List ℕ) → length line ≤ 29 → Counts (inFront line .count) (inFront line .bytes)
+counts line h =
+    let all = length-append line (drop (length line) (zeros 29)) in
+    (omega (arith, all), sym (ap length (line-in-front line)))
+
+-- ---- the code
 
 -- the array with its first eight bytes
 abbrev begun : List ℕ
 begun = ascii "refused " ++ zeros 21
-
--- a line and its count
-pub counts : (line : List ℕ) → length line ≤ 29 → Counts (inFront line .count) (inFront line .bytes)
-counts line h =
-    let all = length-append line (drop (length line) (zeros 29)) in
-    (omega (arith, all), sym (ap length (take-at line (drop (length line) (zeros 29)) (length line) refl)))
 
 -- the digits of a number: k of them
 module _ (number k : ℕ) (h : number < 2 ^ 64) (fewest : Fewest 10 1 number k) where

@@ -8,7 +8,7 @@ use Rattle.text.specs.Text.{ascii, decimal}
 use Rattle.galois.specs.Words.{at}
 use Rattle.generator.specs.declared.State.{State}
 use Rattle.masking.specs.Masking.{masked}
-use Rattle.loading.specs.WorkedTable.{zeros}
+use Rattle.loading.specs.Loading.{zeros}
 use Rattle.answers.specs.declared.Answer.{Answer}
 use Rattle.answers.specs.Tests.{limit}
 use Rattle.opening.specs.Opening.{opened}
@@ -44,7 +44,7 @@ started input = opened (keyIn input) (ivIn input)
 abbrev pub refusalLine : (number : ℕ) → List ℕ
 refusalLine number = ascii "refused " ++ (decimal number ++ ascii "\n")
 
--- a line at the front of 29 bytes, which are 0 else, and its length
+-- a line at the front of 29 bytes, the others 0, and its length: the longest line has eight bytes, 20 digits and a line feed
 abbrev pub inFront : (line : List ℕ) → RefusalLine
 inFront line = record { bytes = line ++ drop (length line) (zeros 29); count = length line }
 

@@ -13,7 +13,7 @@ use Rattle.opening.specs.Opening.{blank}
 use Rattle.positions.specs.Positions.{movedTo}
 use Rattle.refusals.specs.Lines.{Line}
 use Rattle.answers.specs.Lines.{RefusesExactly}
-use Rattle.framing.specs.Framing.{keyLengthIn, keyIn, ivIn, dataIn, started, refusalLine, dataOut, piecesOut, afterPieces, joined}
+use Rattle.framing.specs.Framing.{keyLengthIn, keyIn, ivIn, dataIn, started, refusalLine, inFront, dataOut, piecesOut, afterPieces, joined}
 
 -- "Input too short for the key counts as 1, too short for the IV as 2", beside opening's own 1 for a key length, and its 14: the bytes after the first,
 -- as many as that says, are all zero
@@ -41,6 +41,8 @@ pub record FramingLaws : Type 0 where
   pub refused-1 : refusalLine 1 ≡ 114 ∷ 101 ∷ 102 ∷ 117 ∷ 115 ∷ 101 ∷ 100 ∷ 32 ∷ 49 ∷ 10 ∷ []
   pub refused-2 : refusalLine 2 ≡ 114 ∷ 101 ∷ 102 ∷ 117 ∷ 115 ∷ 101 ∷ 100 ∷ 32 ∷ 50 ∷ 10 ∷ []
   pub refused-14 : refusalLine 14 ≡ 114 ∷ 101 ∷ 102 ∷ 117 ∷ 115 ∷ 101 ∷ 100 ∷ 32 ∷ 49 ∷ 52 ∷ 10 ∷ []
+  -- the bytes that are handed over for a line: as many as are counted, from the first on, are the line
+  pub line-in-front : (line : List ℕ) → take (inFront line .count) (inFront line .bytes) ≡ line
   -- the header is enough: its first byte, the key and the IV, or the whole input where that is shorter
   pub header-alone : (input : List ℕ) → started (take (33 + keyLengthIn input) input) ≡ started input
   -- however the data up to the limit are divided into pieces, what the calls leave in them is the data with the keystream applied

@@ -17,10 +17,10 @@ use Rattle.generator.specs.Registers.{Registers, EighteenWords, next, previous,
 use Rattle.generator.specs.GeneratorLaws.{UndoneBy}
 use Rattle.generator.proofs.Iterate.{undone-compose}
 use Rattle.generator.proofs.GeneratorLaws.{generator-laws}
-use Rattle.loading.specs.Loading.{Bytes, KeyAndIv, wordOf, Row, rowsOf, loadedCell, loadedCells, sizeMark, load, initialSteps, initialised, registersAt}
+use Rattle.loading.specs.Loading.{Bytes, zeros, KeyAndIv, wordOf, Row, rowsOf, loadedCell, loadedCells, sizeMark, load, initialSteps, initialised, registersAt}
 use Rattle.loading.specs.Recovery.{loadedFrom, recoveredWord, stringOf, recoveredKey}
 use Rattle.loading.specs.LoadingLaws.{OneToOneInBoth, ChangedBy, LoadingLaws}
-use Rattle.loading.specs.WorkedTable.{zeros, key11, iv11}
+use Rattle.loading.specs.WorkedTable.{key11, iv11}
 use Rattle.loading.proofs.Strings.{reverse-lt, wordOf-lt, stringOf-length, stringOf-bytes, stringOf-ext, wordOf-stringOf, stringOf-wordOf, string-ext}
 use Rattle.loading.proofs.Rows.{holdsKey, holdsKeyAlone, holdsIv, someRow, same-key, same-iv, loadedCell-lt}
 use Rattle.loading.proofs.Recovered.{recovers-word}

@@ -5,8 +5,8 @@ use mathlib.Core.Path.{_≡_}
 use mathlib.Core.List.{List, [], _∷_, _++_}
 use Prim.Native.Nat.{ℕ}
 use Rattle.generator.specs.Registers.{keystreamWord}
-use Rattle.loading.specs.Loading.{registersAt}
-use Rattle.loading.specs.WorkedTable.{zeros, wordBytes}
+use Rattle.loading.specs.Loading.{zeros, registersAt}
+use Rattle.loading.specs.WorkedTable.{wordBytes}
 
 -- the key 80 00 .. 00 of n + 1 bytes
 abbrev pub key80 : (n : ℕ) → List ℕ

@@ -6,7 +6,7 @@ use mathlib.Core.List.{List, [], _∷_, map, reverse}
 use Prim.Native.Nat.{ℕ, _+_, _*_, _<_}
 use lib.Bits.{bitXor}
 use lib.Dec.{eqb}
-use lib.ListN.{length}
+use lib.ListN.{length, replicate}
 use Rattle.galois.specs.Words.{word, at}
 use Rattle.generator.specs.declared.Kind.the-variants.{Ordinary, Initial}
 use Rattle.generator.specs.Registers.{Registers, next, iterate}
@@ -14,6 +14,10 @@ use Rattle.generator.specs.Registers.{Registers, next, iterate}
 -- a string of bytes
 abbrev pub Bytes : List ℕ → Type 0
 Bytes string = (j : ℕ) → at string j < 256
+
+-- n bytes of zero
+abbrev pub zeros : (n : ℕ) → List ℕ
+zeros n = replicate n 0
 
 -- a key of 256 or 512 bits and an IV of 256
 pub record KeyAndIv (key iv : List ℕ) : Type 0 where

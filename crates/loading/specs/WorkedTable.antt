@@ -3,14 +3,13 @@
 use mathlib.Core.Path.{_≡_}
 use mathlib.Core.List.{List, [], _∷_, _++_, map}
 use Prim.Native.Nat.{ℕ}
-use lib.ListN.{replicate}
 use Rattle.galois.specs.Words.{at}
 use Rattle.galois.specs.Alpha.{alphaTable, alphaInverseTable, alphaTimes}
 use Rattle.substitution.specs.Substitution.{substitute, substituteInverse}
 use Rattle.generator.specs.declared.Kind.{Kind}
 use Rattle.generator.specs.declared.Kind.the-variants.{Ordinary, Initial}
 use Rattle.generator.specs.Registers.{Registers, cell, F, next}
-use Rattle.loading.specs.Loading.{load}
+use Rattle.loading.specs.Loading.{zeros, load}
 
 pub record Worked : Type 0 where
   pub computed : List ℕ
@@ -18,10 +17,6 @@ pub record Worked : Type 0 where
 
 abbrev ones : ℕ
 ones = 0xFFFFFFFFFFFFFFFF
-
--- n bytes of zero
-abbrev pub zeros : ℕ → List ℕ
-zeros n = replicate n 0
 
 -- the eight bytes of a word below 256, most significant first
 abbrev pub wordBytes : ℕ → List ℕ

@@ -6,8 +6,7 @@ use Prim.Native.Nat.{ℕ, _/_}
 use borrow.Author.Tests.{ne-eqb}
 use lib.ListN.{length, length-replicate}
 use Rattle.generator.specs.declared.State.{State}
-use Rattle.loading.specs.Loading.{sizeMark}
-use Rattle.loading.specs.WorkedTable.{zeros}
+use Rattle.loading.specs.Loading.{zeros, sizeMark}
 use Rattle.loading.proofs.LoadingLaws.{loading-laws, size-of}
 use Rattle.refusals.specs.Numbers.{accepted}
 use Rattle.refusals.proofs.Tests.{one-of, none-of}

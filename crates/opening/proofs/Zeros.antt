@@ -1,5 +1,5 @@
 -- Bytes that are all 0: the test, and the loop that computes it.
-use mathlib.Core.Path.{_≡_, refl, sym, ap₂}
+use mathlib.Core.Path.{_≡_, refl, sym, ap, ap₂, _∙_}
 use mathlib.Core.Bool.{Bool, true, false, true≢false, _&&_, and-true, and-assoc}
 use mathlib.Core.List.{List, [], _∷_}
 use Prim.Native.Nat.{ℕ, zero, suc, _<_, _≤_}
@@ -10,17 +10,28 @@ use lib.Dec.{eqb}
 use lib.ListN.{length, drop, drop-of-length-le}
 use lib.Seq.{drop-cons}
 use Rattle.galois.specs.Words.{at}
-use Rattle.loading.specs.WorkedTable.{zeros}
+use Rattle.loading.specs.Loading.{zeros}
 use Rattle.opening.specs.Opening.{allZero, zeroKeyTest, zeroKeyLine}
 use Rattle.refusals.proofs.Tests.{and-parts}
 use Rattle.refusals.proofs.Lines.{Decides}
 
 -- ---- the test
 
+-- bytes that are all 0 are so many zeros
+pub all-zero-zeros : (bytes : List ℕ) → allZero bytes ≡ true → bytes ≡ zeros (length bytes)
+all-zero-zeros [] e = refl
+all-zero-zeros (b ∷ bytes) e =
+    let both = and-parts (eqb b 0) (allZero bytes) e in
+    ap₂ _∷_ (eqb-true b 0 (both .0)) (all-zero-zeros bytes (both .1))
+
+-- each byte of zeros
+pub zeros-at : (n j : ℕ) → at (zeros n) j ≡ 0
+zeros-at zero j = refl
+zeros-at (suc n) zero = refl
+zeros-at (suc n) (suc j) = zeros-at n j
+
 pub all-zero-at : (bytes : List ℕ) → allZero bytes ≡ true → (j : ℕ) → at bytes j ≡ 0
-all-zero-at [] e j = refl
-all-zero-at (b ∷ bytes) e zero = eqb-true b 0 (and-parts (eqb b 0) (allZero bytes) e .0)
-all-zero-at (b ∷ bytes) e (suc j) = all-zero-at bytes (and-parts (eqb b 0) (allZero bytes) e .1) j
+all-zero-at bytes e j = ap (λ (l : List ℕ). at l j) (all-zero-zeros bytes e) ∙ zeros-at (length bytes) j
 
 pub not-all-zero : (bytes : List ℕ) (j : ℕ) → (at bytes j ≡ 0 → ⊥) → allZero bytes ≡ false
 not-all-zero bytes j h = by (allZero bytes) refl
@@ -29,7 +40,7 @@ not-all-zero bytes j h = by (allZero bytes) refl
     by true e = absurd (h (all-zero-at bytes e j))
     by false e = refl
 
--- the first that is not 0
+-- where they are not, there is one that is not 0
 pub some-byte : (bytes : List ℕ) → allZero bytes ≡ false → (j : ℕ) × ((j < length bytes) × (at bytes j ≡ 0 → ⊥))
 some-byte [] e = absurd (true≢false e)
 some-byte (b ∷ bytes) e = by (eqb b 0) refl e (some-byte bytes)
@@ -43,22 +54,9 @@ pub zero-key-decides : (key : List ℕ) → Decides (zeroKeyTest key) (zeroKeyLi
 zero-key-decides key =
     record { number = refl; yes = λ e j h. all-zero-at key e j; no = λ e all. let place = some-byte key e in place .1 .1 (all (place .0) (place .1 .0)) }
 
--- bytes that are all 0 are so many zeros
-pub all-zero-zeros : (bytes : List ℕ) → allZero bytes ≡ true → bytes ≡ zeros (length bytes)
-all-zero-zeros [] e = refl
-all-zero-zeros (b ∷ bytes) e =
-    let both = and-parts (eqb b 0) (allZero bytes) e in
-    ap₂ _∷_ (eqb-true b 0 (both .0)) (all-zero-zeros bytes (both .1))
-
 pub zeros-all-zero : (n : ℕ) → allZero (zeros n) ≡ true
 zeros-all-zero zero = refl
 zeros-all-zero (suc n) = zeros-all-zero n
-
--- each byte of zeros
-pub zeros-at : (n j : ℕ) → at (zeros n) j ≡ 0
-zeros-at zero j = refl
-zeros-at (suc n) zero = refl
-zeros-at (suc n) (suc j) = zeros-at n j
 
 -- ---- the loop
 

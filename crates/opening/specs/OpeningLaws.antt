@@ -6,8 +6,7 @@ use Prim.Native.Nat.{ℕ}
 use lib.ListN.{length}
 use Rattle.galois.specs.Words.{at}
 use Rattle.generator.specs.declared.State.{State}
-use Rattle.loading.specs.Loading.{KeyAndIv, sizeMark, registersAt}
-use Rattle.loading.specs.WorkedTable.{zeros}
+use Rattle.loading.specs.Loading.{zeros, KeyAndIv, sizeMark, registersAt}
 use Rattle.refusals.specs.Numbers.{accepted}
 use Rattle.refusals.specs.Tests.{returned}
 use Rattle.answers.specs.Tests.{stateTests, WellFormed}

@@ -1,5 +1,5 @@
 -- The laws of text that specs/TextLaws.antt states.
-use mathlib.Core.Path.{_≡_, refl, sym, ap, _∙_}
+use mathlib.Core.Path.{_≡_, refl, sym, _∙_}
 use mathlib.Core.Bool.{Bool, true, false, cond}
 use mathlib.Core.List.{List, [], _∷_, _++_}
 use Prim.Native.Nat.{ℕ, zero, suc, _+_, _-_, _*_, _/_, _%_, _^_, _≤_, _<_}
@@ -80,5 +80,4 @@ text-laws =
       decimal-digit = λ n. each-digit 20 n;
       decimal-front = λ n h. front 19 n (omega arith);
       decimal-0 = refl;
-      decimal-last = refl;
     }

@@ -24,7 +24,7 @@ hexDigits k n = tabulate k (λ i. hexDigit (n / 2 ^ (4 * (k - (1 + i))) % 16))
 unfoldable pub hexWord : ℕ → List ℕ
 hexWord n = hexDigits 16 n
 
--- a number in decimal digits, without zeros in front, as far as so many digits go: those of its tenth, then the last
+-- a number in decimal digits, at most so many: those of n / 10, where n is 10 or more, and then n % 10
 abbrev pub decimalDigits : (most : ℕ) → ℕ → List ℕ
 decimalDigits zero n = []
 decimalDigits (suc most) n = cond (ltb n 10) [] (decimalDigits most (n / 10)) ++ ((48 + n % 10) ∷ [])

@@ -17,4 +17,3 @@ pub record TextLaws : Type 0 where
   pub decimal-digit : (n j : ℕ) → j < length (decimal n) → (48 ≤ at (decimal n) j) × (at (decimal n) j ≤ 57)
   pub decimal-front : (n : ℕ) → n < 2 ^ 64 → 0 < n → at (decimal n) 0 ≡ 48 → ⊥
   pub decimal-0 : decimal 0 ≡ ascii "0"
-  pub decimal-last : decimal 18446744073709551615 ≡ ascii "18446744073709551615"

@@ -76,8 +76,8 @@ fn loaded_alike(x: u64, key: &[u8], iv: &[u8]) {
     check_with(b"check with an IV of zeros: ", s, &zeros);
 }
 
-// Such words with this byte lowest.
-fn lowest_bytes(byte: u8) {
+// K4, IV3 and IV1 have this lowest byte, and all others are 0.
+fn alike_in_lowest_bytes(byte: u8) {
     let mut key = [0u8; 64];
     let mut iv = tables::IV_ZERO;
     key[31] = byte;
@@ -86,8 +86,8 @@ fn lowest_bytes(byte: u8) {
     loaded_alike(byte as u64, &key, &iv);
 }
 
-// Such words with this byte highest.
-fn highest_bytes(byte: u8) {
+// K4, IV3 and IV1 have this highest byte, and all others are 0.
+fn alike_in_highest_bytes(byte: u8) {
     let mut key = [0u8; 64];
     let mut iv = tables::IV_ZERO;
     key[24] = byte;
@@ -103,6 +103,6 @@ fn main() {
     four_vectors(5, &key_80, &key_aa);
     zero_key(256, &[0; 32]);
     zero_key(512, &[0; 64]);
-    lowest_bytes(1);
-    highest_bytes(128);
+    alike_in_lowest_bytes(1);
+    alike_in_highest_bytes(128);
 }

@@ -5,7 +5,7 @@ use Prim.Native.Nat.{ℕ, _≤_}
 use native.Mathlib.Omega.{arith}
 use borrow.Author.Needs.{needs}
 use lib.ListN.{length, take, drop}
-use Rattle.loading.specs.WorkedTable.{zeros}
+use Rattle.loading.specs.Loading.{zeros}
 use Rattle.framing.proofs.RefusalLines.{few, line-made}
 use Rattle.framing.proofs.refusal_line.Statement.{statement}
 use Rattle.framing.proofs.refusal_line.Tie as tie
