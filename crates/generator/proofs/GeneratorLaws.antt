@@ -1,7 +1,8 @@
 -- The laws of steps and walks that specs/GeneratorLaws.antt states.
-use mathlib.Core.Path.{_≡_, refl, ap, fun-ext, _∙_}
+use mathlib.Core.Path.{_≡_, refl, sym, ap, fun-ext, _∙_}
 use mathlib.Core.List.{List}
 use Prim.Native.Nat.{ℕ}
+use lib.Bits.{bitXor}
 use Rattle.galois.specs.Words.{at}
 use Rattle.galois.specs.Alpha.{alphaTable, alphaInverseTable, alphaTimesWith, alphaInverseTimesWith, alphaTimes, alphaInverseTimes}
 use Rattle.galois.proofs.AlphaLaws.{alpha-laws}
@@ -10,9 +11,11 @@ use Rattle.substitution.specs.Substitution.{columnTables, substitutionTables, m
 use Rattle.substitution.proofs.SubstitutionLaws.{substitution-laws}
 use Rattle.generator.specs.declared.State.{State}
 use Rattle.generator.specs.declared.Kind.{Kind}
-use Rattle.generator.specs.Registers.{Registers, nextWith, previousWith, next, previous, walked}
+use Rattle.generator.specs.declared.Kind.the-variants.{Ordinary, Initial}
+use Rattle.generator.specs.Registers.{Registers, EighteenWords, cell, F, newS15With, nextWith, previousWith, next, previous, walked}
 use Rattle.generator.specs.Functions.{previousBy, nextIn}
 use Rattle.generator.specs.GeneratorLaws.{UndoneBy, GeneratorLaws}
+use Rattle.generator.proofs.Cells.{shift-in-last}
 use Rattle.generator.proofs.Round as Round
 use Rattle.generator.proofs.Round.{Inverses}
 use Rattle.generator.proofs.Iterate.{iterate-add, iterate-undone, undone-one-to-one, words-along}
@@ -31,6 +34,18 @@ previous-next kind = record { keeps = Round.next-words standard kind; undone = R
 
 next-previous : (kind : Kind) → UndoneBy (next kind) (previous kind)
 next-previous kind = record { keeps = Round.previous-words standard kind; undone = Round.next-previous standard kind }
+
+-- the new s15 is shifted in last, so it stands in cell 15
+new-s15 : (t alpha alphaInverse : ℕ → ℕ) (kind : Kind) (r : Registers) → EighteenWords r → cell (nextWith t alpha alphaInverse kind r) 15 ≡ newS15With alpha alphaInverse kind r
+unfolding nextWith
+new-s15 t alpha alphaInverse kind r w = shift-in-last (r .cells) (newS15With alpha alphaInverse kind r) (w .sixteen)
+
+module _ (r : Registers) (w : EighteenWords r) where
+  new-s15-ordinary : cell (next Ordinary r) 15 ≡ bitXor (bitXor (alphaTimes (cell r 0)) (alphaInverseTimes (cell r 11))) (cell r 13)
+  new-s15-ordinary = new-s15 substitute alphaTimes alphaInverseTimes Ordinary r w
+
+  new-s15-initial : cell (next Initial r) 15 ≡ bitXor (cell (next Ordinary r) 15) (F (cell r 15) (r .r1) (r .r2))
+  new-s15-initial = new-s15 substitute alphaTimes alphaInverseTimes Initial r w ∙ ap (λ (x : ℕ). bitXor x (F (cell r 15) (r .r1) (r .r2))) (sym new-s15-ordinary)
 
 table-path : lookUp substitutionTables ≡ substitute
 table-path = fun-ext (substitution-laws .table-path)
@@ -66,6 +81,9 @@ generator-laws =
       undone-one-to-one = λ g f. undone-one-to-one;
       walks-compose = iterate-add;
       words-along = words-along;
+      new-s15 = new-s15;
+      new-s15-ordinary = new-s15-ordinary;
+      new-s15-initial = new-s15-initial;
       next-in-tables = next-in-tables;
       previous-by-tables =
           ap (λ (t : ℕ → ℕ). previousWith t (alphaInverseTimesWith (at alphaInverseTable))) inverse-table-path

@@ -13,7 +13,7 @@ use Rattle.galois.specs.Words.{at, UndoesWord}
 use Rattle.galois.proofs.Xor.{xor-cancel-r}
 use Rattle.generator.specs.declared.Kind.{Kind}
 use Rattle.generator.specs.declared.Kind.the-variants.{Ordinary, Initial}
-use Rattle.generator.specs.Registers.{Registers, EighteenWords, cell, sum, F, mixed, feedbackWith, nextWith, earlierR1, earlierR2, earlierAlphaS0, previousWith}
+use Rattle.generator.specs.Registers.{Registers, EighteenWords, cell, sum, F, mixed, newS15With, nextWith, earlierR1, earlierR2, earlierAlphaS0, previousWith}
 use Rattle.generator.proofs.Cells.{shift-in-last, shift-in-at, shift-in-rest, first-rest, rest-last, append-lt, take-lt, cons-lt, drop-lt}
 use Rattle.generator.proofs.Sums.{difference-sum, sum-difference}
 
@@ -51,16 +51,15 @@ module _ {t tInverse alpha alphaInverse : ℕ → ℕ} (u : Inverses t tInverse 
   f = F (cell r 15) (r .r1) (r .r2)
 
   abbrev fed : ℕ
-  fed = feedbackWith alpha alphaInverse (r .cells)
+  fed = bitXor (bitXor (alpha (cell r 0)) (alphaInverse (cell r 11))) (cell r 13)
 
   abbrev last : ℕ
-  last = mixed kind f fed
+  last = newS15With alpha alphaInverse kind r
 
   last-lt : last < 2 ^ 64
   last-lt =
       mixed-lt kind f fed (F-lt (cell r 15) (r .r1) (r .r2) (w .r2-lt))
-      (xor-lt 64 (bitXor (alpha (cell r 0)) (alphaInverse (cell r 11))) (cell r 13)
-      (xor-lt 64 (alpha (cell r 0)) (alphaInverse (cell r 11)) (u .inverse-alpha (cell r 0) (w .cell-lt 0) .0) (u .alpha-inverse (cell r 11) (w .cell-lt 11) .0)) (w .cell-lt 13))
+      (xor-lt 64 _ _ (xor-lt 64 _ _ (u .inverse-alpha _ (w .cell-lt 0) .0) (u .alpha-inverse _ (w .cell-lt 11) .0)) (w .cell-lt 13))
 
   pub next-words : EighteenWords (nextWith t alpha alphaInverse kind r)
   unfolding nextWith

@@ -8,7 +8,12 @@ use Rattle.galois.specs.Alpha.{alphaTimesWith, alphaInverseTimesWith}
 use Rattle.substitution.specs.Substitution.{lookUp, lookUpThrough}
 use Rattle.generator.specs.declared.State.{State}
 use Rattle.generator.specs.declared.Kind.{Kind}
-use Rattle.generator.specs.Registers.{Registers, registersOf, withRegisters, feedbackWith, nextWith, previousWith}
+use Rattle.generator.specs.Registers.{Registers, registersOf, withRegisters, newS15With, nextWith, previousWith}
+
+-- ---- the new s15 by two tables, that of α and that of its inverse: T's have no part in it
+
+abbrev pub newS15By : (alpha alphaInverse : List ℕ) → Kind → Registers → ℕ
+newS15By alpha alphaInverse = newS15With (alphaTimesWith (at alpha)) (alphaInverseTimesWith (at alphaInverse))
 
 -- ---- forward by ten tables in one, laid as `stepTables`: the eight of T, then that of α, then that of its inverse
 
@@ -17,9 +22,6 @@ alphaTimesIn tables = alphaTimesWith (at (getD tables 8 []))
 
 abbrev pub alphaInverseTimesIn : (tables : List (List ℕ)) → ℕ → ℕ
 alphaInverseTimesIn tables = alphaInverseTimesWith (at (getD tables 9 []))
-
-abbrev pub feedbackIn : (tables : List (List ℕ)) → List ℕ → ℕ
-feedbackIn tables = feedbackWith (alphaTimesIn tables) (alphaInverseTimesIn tables)
 
 abbrev pub nextIn : (tables : List (List ℕ)) → Kind → Registers → Registers
 nextIn tables = nextWith (lookUp tables) (alphaTimesIn tables) (alphaInverseTimesIn tables)

@@ -1,5 +1,5 @@
 -- Document 01, "Registers and steps": the registers of a state, the steps forward and back, walks of n steps, the keystream word; and document 02,
--- item 2: the step that hands over its word.
+-- item 2: the step that hands over its word, and item 4: the new s15 by an equation of its own.
 use mathlib.Core.Path.{_≡_}
 use mathlib.Core.List.{List, [], _∷_, _++_}
 use Prim.Native.Nat.{ℕ, zero, suc, _+_, _-_, _%_, _^_, _<_}
@@ -59,16 +59,18 @@ abbrev pub mixed : Kind → ℕ → ℕ → ℕ
 mixed Ordinary f x = x
 mixed Initial f x = bitXor x f
 
--- "α·s0 ⊕ α^-1·s11 ⊕ s13", with the two products as parameters
-abbrev pub feedbackWith : (alpha alphaInverse : ℕ → ℕ) → List ℕ → ℕ
-feedbackWith alpha alphaInverse c = bitXor (bitXor (alpha (at c 0)) (alphaInverse (at c 11))) (at c 13)
+-- document 02, item 4: "the new s15 gets an equation of its own in the old cells and registers, without T, for ordinary steps and those of initialisation".
+-- "new s15 = α·s0 ⊕ α^-1·s11 ⊕ s13, all old", with the two products as parameters; in a step of initialisation F(s15, r1, r2) is mixed in.
+abbrev pub newS15With : (alpha alphaInverse : ℕ → ℕ) → Kind → Registers → ℕ
+newS15With alpha alphaInverse kind r =
+    mixed kind (F (cell r 15) (r .r1) (r .r2)) (bitXor (bitXor (alpha (cell r 0)) (alphaInverse (cell r 11))) (cell r 13))
 
 -- "One step: new r2 = T(old r1); new r1 = old r2 + old s13; new s_j = old s_(j+1) for j = 0..14; new s15 = α·s0 ⊕ α^-1·s11 ⊕ s13, all old."
 -- T and the two products are parameters, so that the same definition serves words looked up in tables.
 unfoldable pub nextWith : (t alpha alphaInverse : ℕ → ℕ) → Kind → Registers → Registers
 nextWith t alpha alphaInverse kind r =
     record {
-      cells = drop 1 (r .cells) ++ (mixed kind (F (cell r 15) (r .r1) (r .r2)) (feedbackWith alpha alphaInverse (r .cells)) ∷ []);
+      cells = drop 1 (r .cells) ++ (newS15With alpha alphaInverse kind r ∷ []);
       r1 = sum (r .r2) (cell r 13);
       r2 = t (r .r1);
     }

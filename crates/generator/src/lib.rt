@@ -4,7 +4,7 @@ ghost use mathlib.Core.List.{[], _∷_, _++_};
 ghost use lib.ListN.{drop, take};
 ghost use Rattle.generator.specs.Registers.{F, difference, mixed, keystreamWord, registersOf, steppedBy};
 ghost use Rattle.substitution.specs.Substitution.{lookUp};
-ghost use Rattle.generator.specs.Functions.{feedbackIn, nextIn, stepBackBy};
+ghost use Rattle.generator.specs.Functions.{newS15By, nextIn, stepBackBy};
 use galois::alpha_inverse_times_by_table;
 use galois::alpha_times_by_table;
 use std::num::wrapping_add_u64;
@@ -60,25 +60,31 @@ fn mix_in(kind: Kind, f: u64, x: u64) -> u64
     }
 }
 
-// α times s0, α inverse times s11, and s13, together.
-fn feedback(c: [u64; 16], tables: &[[u64; 256]; 10]) -> u64
-    ensures { λ r. ⌜ r ≡ feedbackIn (now (tables .entry)) c ⌝ }
+// The new s15, from the old cells and registers: α times s0, α inverse times s11, and s13, together, and F into them in a step of initialisation. It is
+// lent the tables of α and of its inverse alone.
+fn new_s15(kind: Kind, s: State, alpha: &[u64; 256], inverse: &[u64; 256]) -> u64
+    ensures { λ r. ⌜ r ≡ newS15By (now (alpha .entry)) (now (inverse .entry)) kind (registersOf s) ⌝ }
 {
-    alpha_times_by_table(c[0], &tables[8]) ^ alpha_inverse_times_by_table(c[11], &tables[9]) ^ c[13]
+    let c = s.cells;
+    let fed = alpha_times_by_table(c[0], alpha)
+        ^ alpha_inverse_times_by_table(c[11], inverse)
+        ^ c[13];
+    mix_in(kind, filter(c[15], s.r1, s.r2), fed)
 }
 
-// T by the first eight of the tables.
+// T by the first eight of the tables. The order is for the compiler: with byte 0 last it leaves the loads of `new_s15` before these in every step, and of
+// such orders this one was the fastest that was tried.
 fn substitute(w: u64, tables: &[[u64; 256]; 10]) -> u64
     ensures { λ r. ⌜ r ≡ lookUp (now (tables .entry)) w ⌝ }
 {
-    tables[0][((w >> 0) % 256) as usize]
-        ^ tables[1][((w >> 8) % 256) as usize]
-        ^ tables[2][((w >> 16) % 256) as usize]
-        ^ tables[3][((w >> 24) % 256) as usize]
-        ^ tables[4][((w >> 32) % 256) as usize]
-        ^ tables[5][((w >> 40) % 256) as usize]
-        ^ tables[6][((w >> 48) % 256) as usize]
+    tables[1][((w >> 8) % 256) as usize]
         ^ tables[7][((w >> 56) % 256) as usize]
+        ^ tables[6][((w >> 48) % 256) as usize]
+        ^ tables[5][((w >> 40) % 256) as usize]
+        ^ tables[4][((w >> 32) % 256) as usize]
+        ^ tables[3][((w >> 24) % 256) as usize]
+        ^ tables[2][((w >> 16) % 256) as usize]
+        ^ tables[0][((w >> 0) % 256) as usize]
 }
 
 // The cells one place on, the first one gone and x last.
@@ -144,8 +150,7 @@ pub fn step(kind: Kind, s: State, tables: &[[u64; 256]; 10]) -> Stepped
     ensures { λ r. ⌜ r ≡ steppedBy (nextIn (now (tables .entry)) kind) s ⌝ }
 {
     let c = s.cells;
-    let f = filter(c[15], s.r1, s.r2);
-    let last = mix_in(kind, f, feedback(c, tables));
+    let last = new_s15(kind, s, &tables[8], &tables[9]);
     let cells = shift_in(c, last);
     let r2 = substitute(s.r1, tables);
     let r1 = wrapping_add_u64(s.r2, c[13]);

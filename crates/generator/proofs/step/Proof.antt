@@ -8,10 +8,10 @@ returns : tie.Need-returns
 unfolding nextWith
 returns c =
     let k = c .before in
-    let m = k .before .before .before in
-    simp (c .keystream-word .ensures, k .wrapping-add-u64 .ensures, k .before .substitute .ensures, k .before .before .shift-in .ensures, m .mix-in .ensures, m .before .feedback .ensures, m .before .before .filter .ensures)
+    let m = k .before .before in
+    simp (c .keystream-word .ensures, k .wrapping-add-u64 .ensures, k .before .substitute .ensures, m .shift-in .ensures, m .before .new-s15 .ensures)
 
 pub step-spec : {M : Type 1} → statement M
 step-spec =
     tie.close
-    (tie.spec (λ c. search needs) (λ c κs. search needs) (λ c κs. search needs) (λ c κs. search needs) (λ c κs. search needs) (λ c κs. search needs) (λ c. search needs) (λ c κs. search needs) (λ c κs. search needs) returns)
+    (tie.spec (λ c. search needs) (λ c. search needs) (λ c κs. search needs) (λ c κs. search needs) (λ c κs. search needs) (λ c. search needs) (λ c κs. search needs) (λ c κs. search needs) returns)
