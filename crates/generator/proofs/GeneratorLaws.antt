@@ -1,7 +1,7 @@
 -- The laws of steps and walks that specs/GeneratorLaws.antt states.
 use mathlib.Core.Path.{_≡_, refl, sym, ap, fun-ext, _∙_}
 use mathlib.Core.List.{List}
-use Prim.Native.Nat.{ℕ}
+use Prim.Native.Nat.{ℕ, _+_, _%_, _^_}
 use lib.Bits.{bitXor}
 use Rattle.galois.specs.Words.{at}
 use Rattle.galois.specs.Alpha.{alphaTable, alphaInverseTable, alphaTimesWith, alphaInverseTimesWith, alphaTimes, alphaInverseTimes}
@@ -13,7 +13,7 @@ use Rattle.generator.specs.declared.State.{State}
 use Rattle.generator.specs.declared.Kind.{Kind}
 use Rattle.generator.specs.declared.Kind.the-variants.{Ordinary, Initial}
 use Rattle.generator.specs.Registers.{Registers, EighteenWords, cell, F, newS15With, nextWith, previousWith, next, previous, walked}
-use Rattle.generator.specs.Functions.{previousBy, nextIn}
+use Rattle.generator.specs.Functions.{newS15By, previousBy, nextIn}
 use Rattle.generator.specs.GeneratorLaws.{UndoneBy, GeneratorLaws}
 use Rattle.generator.proofs.Cells.{shift-in-last}
 use Rattle.generator.proofs.Round as Round
@@ -44,8 +44,10 @@ module _ (r : Registers) (w : EighteenWords r) where
   new-s15-ordinary : cell (next Ordinary r) 15 ≡ bitXor (bitXor (alphaTimes (cell r 0)) (alphaInverseTimes (cell r 11))) (cell r 13)
   new-s15-ordinary = new-s15 substitute alphaTimes alphaInverseTimes Ordinary r w
 
-  new-s15-initial : cell (next Initial r) 15 ≡ bitXor (cell (next Ordinary r) 15) (F (cell r 15) (r .r1) (r .r2))
-  new-s15-initial = new-s15 substitute alphaTimes alphaInverseTimes Initial r w ∙ ap (λ (x : ℕ). bitXor x (F (cell r 15) (r .r1) (r .r2))) (sym new-s15-ordinary)
+  new-s15-initial : cell (next Initial r) 15 ≡ bitXor (cell (next Ordinary r) 15) (bitXor ((cell r 15 + r .r1) % 2 ^ 64) (r .r2))
+  unfolding F
+  new-s15-initial =
+      new-s15 substitute alphaTimes alphaInverseTimes Initial r w ∙ ap (λ (x : ℕ). bitXor x (bitXor ((cell r 15 + r .r1) % 2 ^ 64) (r .r2))) (sym new-s15-ordinary)
 
 table-path : lookUp substitutionTables ≡ substitute
 table-path = fun-ext (substitution-laws .table-path)
@@ -58,6 +60,12 @@ alpha-path = fun-ext (alpha-laws .alpha-by-table)
 
 inverse-path : alphaInverseTimesWith (at alphaInverseTable) ≡ alphaInverseTimes
 inverse-path = fun-ext (alpha-laws .inverse-by-table)
+
+new-s15-by-tables : (kind : Kind) (r : Registers) → EighteenWords r → newS15By alphaTable alphaInverseTable kind r ≡ cell (next kind r) 15
+new-s15-by-tables kind r w =
+    ap (λ (a : ℕ → ℕ). newS15With a (alphaInverseTimesWith (at alphaInverseTable)) kind r) alpha-path
+    ∙ ap (λ (a : ℕ → ℕ). newS15With alphaTimes a kind r) inverse-path
+    ∙ sym (new-s15 substitute alphaTimes alphaInverseTimes kind r w)
 
 -- the eight tables of T, that of α and that of its inverse are found in their places among the ten
 in-places : nextIn stepTables ≡ nextWith (lookUp substitutionTables) (alphaTimesWith (at alphaTable)) (alphaInverseTimesWith (at alphaInverseTable))
@@ -82,6 +90,7 @@ generator-laws =
       walks-compose = iterate-add;
       words-along = words-along;
       new-s15 = new-s15;
+      new-s15-by-tables = new-s15-by-tables;
       new-s15-ordinary = new-s15-ordinary;
       new-s15-initial = new-s15-initial;
       next-in-tables = next-in-tables;

@@ -50,15 +50,15 @@ module _ {t tInverse alpha alphaInverse : ℕ → ℕ} (u : Inverses t tInverse 
   abbrev f : ℕ
   f = F (cell r 15) (r .r1) (r .r2)
 
-  abbrev fed : ℕ
-  fed = bitXor (bitXor (alpha (cell r 0)) (alphaInverse (cell r 11))) (cell r 13)
+  abbrev feedback : ℕ
+  feedback = bitXor (bitXor (alpha (cell r 0)) (alphaInverse (cell r 11))) (cell r 13)
 
   abbrev last : ℕ
   last = newS15With alpha alphaInverse kind r
 
   last-lt : last < 2 ^ 64
   last-lt =
-      mixed-lt kind f fed (F-lt (cell r 15) (r .r1) (r .r2) (w .r2-lt))
+      mixed-lt kind f feedback (F-lt (cell r 15) (r .r1) (r .r2) (w .r2-lt))
       (xor-lt 64 _ _ (xor-lt 64 _ _ (u .inverse-alpha _ (w .cell-lt 0) .0) (u .alpha-inverse _ (w .cell-lt 11) .0)) (w .cell-lt 13))
 
   pub next-words : EighteenWords (nextWith t alpha alphaInverse kind r)
@@ -82,7 +82,7 @@ module _ {t tInverse alpha alphaInverse : ℕ → ℕ} (u : Inverses t tInverse 
       let at-14 = shift-in-at l last h 14 (lit< tt) in
       let at-12 = shift-in-at l last h 12 (lit< tt) in
       let at-10 = shift-in-at l last h 10 (lit< tt) in
-      let unmixed = mixed-mixed kind f fed in
+      let unmixed = mixed-mixed kind f feedback in
       let xored = xor-cancel-r (bitXor (alpha (cell r 0)) (alphaInverse (cell r 11))) (cell r 13) in
       let xored′ = xor-cancel-r (alpha (cell r 0)) (alphaInverse (cell r 11)) in
       same

@@ -1,17 +1,18 @@
 -- What is proved of steps and walks: proofs/GeneratorLaws.antt has `generator-laws : GeneratorLaws`.
--- Each law is said once for both kinds of step, and of all registers: sixteen cells and two registers that hold any words.
+-- Each law is said once for both kinds of step, but for two on the new s15 that are of one kind each, and of all registers: sixteen cells and two registers
+-- that hold any words.
 use mathlib.Core.Path.{_≡_}
-use Prim.Native.Nat.{ℕ, _+_}
+use Prim.Native.Nat.{ℕ, _+_, _%_, _^_}
 use lib.Bits.{bitXor}
 use Rattle.galois.specs.Words.{tabulate}
-use Rattle.galois.specs.Alpha.{alphaInverseTable, alphaTimes, alphaInverseTimes}
+use Rattle.galois.specs.Alpha.{alphaTable, alphaInverseTable, alphaTimes, alphaInverseTimes}
 use Rattle.sboxes.specs.Sboxes.{piInverse}
 use Rattle.substitution.specs.Substitution.{matrixInverseTables, stepTables}
 use Rattle.generator.specs.declared.State.{State}
 use Rattle.generator.specs.declared.Kind.{Kind}
 use Rattle.generator.specs.declared.Kind.the-variants.{Ordinary, Initial}
-use Rattle.generator.specs.Registers.{Registers, EighteenWords, cell, F, registersOf, newS15With, nextWith, next, previous, keystreamWord, iterate, walked, steppedBy, wordsAlong}
-use Rattle.generator.specs.Functions.{nextIn, previousBy}
+use Rattle.generator.specs.Registers.{Registers, EighteenWords, cell, registersOf, newS15With, nextWith, next, previous, keystreamWord, iterate, walked, steppedBy, wordsAlong}
+use Rattle.generator.specs.Functions.{newS15By, nextIn, previousBy}
 
 -- f keeps eighteen words such, and g undoes it there
 pub record UndoneBy (g f : Registers → Registers) : Type 0 where
@@ -36,15 +37,17 @@ pub record GeneratorLaws : Type 0 where
   -- the words handed over along a walk of n steps are the keystream words of the states that its steps leave, in order: whatever the step, so of either kind
   pub words-along :
       (f : Registers → Registers) (n : ℕ) (s : State) → wordsAlong (steppedBy f) n s ≡ tabulate n (λ (i : ℕ). keystreamWord (registersOf (walked f i s)))
-  -- document 02, item 4: the new s15 is its equation, in which T does not stand, whatever stands in the places of T and of the products: so it is in `next kind`,
+  -- document 02, item 4: s15 after a step is `newS15With`, in which T does not stand, whatever stands in the places of T and of the products: so in `next kind`,
   -- and in `nextIn tables kind` by whatever tables
   pub new-s15 :
       (t alpha alphaInverse : ℕ → ℕ) (kind : Kind) (r : Registers) → EighteenWords r → cell (nextWith t alpha alphaInverse kind r) 15 ≡ newS15With alpha alphaInverse kind r
-  -- and in 01's words: "new s15 = α·s0 ⊕ α^-1·s11 ⊕ s13, all old"
+  -- by the tables of α and its inverse, what the function for it promises is the new s15 of `next kind`
+  pub new-s15-by-tables : (kind : Kind) (r : Registers) → EighteenWords r → newS15By alphaTable alphaInverseTable kind r ≡ cell (next kind r) 15
+  -- in 01's words, with nothing of the definitions of a step: "new s15 = α·s0 ⊕ α^-1·s11 ⊕ s13, all old"
   pub new-s15-ordinary :
       (r : Registers) → EighteenWords r → cell (next Ordinary r) 15 ≡ bitXor (bitXor (alphaTimes (cell r 0)) (alphaInverseTimes (cell r 11))) (cell r 13)
   -- "A step of initialisation also ⊕es F(s15, r1, r2), all old, into the new s15."
-  pub new-s15-initial : (r : Registers) → EighteenWords r → cell (next Initial r) 15 ≡ bitXor (cell (next Ordinary r) 15) (F (cell r 15) (r .r1) (r .r2))
+  pub new-s15-initial : (r : Registers) → EighteenWords r → cell (next Initial r) 15 ≡ bitXor (cell (next Ordinary r) 15) (bitXor ((cell r 15 + r .r1) % 2 ^ 64) (r .r2))
   -- with the tables of T, α and their inverses, the functions' steps are these
   pub next-in-tables : nextIn stepTables ≡ next
   pub previous-by-tables : previousBy matrixInverseTables piInverse alphaInverseTable ≡ previous

@@ -60,30 +60,29 @@ fn mix_in(kind: Kind, f: u64, x: u64) -> u64
     }
 }
 
-// The new s15, from the old cells and registers: α times s0, α inverse times s11, and s13, together, and F into them in a step of initialisation. It is
-// lent the tables of α and of its inverse alone.
+// The new s15, from the old cells and registers: the xor of α times s0, α inverse times s11 and s13, and in a step of initialisation of F(s15, r1, r2) too.
+// Of the tables it is lent those of α and of its inverse alone.
 fn new_s15(kind: Kind, s: State, alpha: &[u64; 256], inverse: &[u64; 256]) -> u64
     ensures { λ r. ⌜ r ≡ newS15By (now (alpha .entry)) (now (inverse .entry)) kind (registersOf s) ⌝ }
 {
     let c = s.cells;
-    let fed = alpha_times_by_table(c[0], alpha)
+    let feedback = alpha_times_by_table(c[0], alpha)
         ^ alpha_inverse_times_by_table(c[11], inverse)
         ^ c[13];
-    mix_in(kind, filter(c[15], s.r1, s.r2), fed)
+    mix_in(kind, filter(c[15], s.r1, s.r2), feedback)
 }
 
-// T by the first eight of the tables. The order is for the compiler: with byte 0 last it leaves the loads of `new_s15` before these in every step, and of
-// such orders this one was the fastest that was tried.
+// T by the first eight of the tables, from the highest byte down. The xor is the same in any order; docs/DECISIONS.md says why it is this one.
 fn substitute(w: u64, tables: &[[u64; 256]; 10]) -> u64
     ensures { λ r. ⌜ r ≡ lookUp (now (tables .entry)) w ⌝ }
 {
-    tables[1][((w >> 8) % 256) as usize]
-        ^ tables[7][((w >> 56) % 256) as usize]
+    tables[7][((w >> 56) % 256) as usize]
         ^ tables[6][((w >> 48) % 256) as usize]
         ^ tables[5][((w >> 40) % 256) as usize]
         ^ tables[4][((w >> 32) % 256) as usize]
         ^ tables[3][((w >> 24) % 256) as usize]
         ^ tables[2][((w >> 16) % 256) as usize]
+        ^ tables[1][((w >> 8) % 256) as usize]
         ^ tables[0][((w >> 0) % 256) as usize]
 }
 
