@@ -1,5 +1,6 @@
 -- Words and their bytes: one is known by the other, and xor goes byte by byte. Tables by rule: how long they are, and their entries.
 use mathlib.Core.Path.{_≡_, refl, sym, ap, ap₂, _∙_, subst, fun-ext}
+use mathlib.Core.List.{List, [], _∷_}
 use Prim.Native.Nat.{ℕ, zero, suc, _+_, _*_, _/_, _%_, _^_, _≤_, _<_}
 use native.Mathlib.Nat.{mod-lt, zero-lt-suc, div-one, le-of-suc-le-suc, not-suc-le-zero, div-eq-of-lt, lt-of-lt-of-le}
 use native.Mathlib.Omega.{arith}
@@ -7,7 +8,7 @@ use lib.Arith.{digits-div, digits-mod, digits-lt}
 use lib.ListN.{length, getD}
 use lib.Pow.{pow-pos, pow-mono, pow-add, shr-shr, shr-lt, split}
 use lib.Bits.{bitXor, xor-block, xor-shr, xor-mod}
-use Rattle.galois.specs.Words.{byte, word, tabulate}
+use Rattle.galois.specs.Words.{byte, word, tabulate, at}
 use Rattle.galois.proofs.Linear.{Linear}
 
 pub tabulate-at : {A : Type 0} (d : A) (n : ℕ) (f : ℕ → A) (k : ℕ) → k < n → getD (tabulate n f) k d ≡ f k
@@ -18,6 +19,10 @@ tabulate-at d (suc n) f (suc k) h = tabulate-at d n (λ i. f (suc i)) k (le-of-s
 pub tabulate-length : {A : Type 0} (n : ℕ) (f : ℕ → A) → length (tabulate n f) ≡ n
 tabulate-length zero f = refl
 tabulate-length (suc n) f = ap suc (tabulate-length n (λ i. f (suc i)))
+
+pub tabulate-all : (l : List ℕ) → l ≡ tabulate (length l) (at l)
+tabulate-all [] = refl
+tabulate-all (x ∷ l) = ap (λ (t : List ℕ). x ∷ t) (tabulate-all l)
 
 -- ---- a byte of a word
 

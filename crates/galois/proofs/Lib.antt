@@ -4,6 +4,7 @@ pub mod Xor
 pub mod Linear
 pub mod Gmul
 pub mod Bytes
+pub mod Sums
 pub mod Built
 pub mod Spread
 pub mod Filled

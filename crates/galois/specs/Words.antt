@@ -2,7 +2,7 @@
 -- Document 01's ⊕, "bitwise xor", is the library's `bitXor`, which is also what the language's `^` means.
 use mathlib.Core.Path.{_≡_}
 use mathlib.Core.List.{List, [], _∷_}
-use Prim.Native.Nat.{ℕ, zero, suc, _+_, _*_, _/_, _%_, _^_, _<_}
+use Prim.Native.Nat.{ℕ, zero, suc, _+_, _-_, _*_, _/_, _%_, _^_, _<_}
 use lib.ListN.{getD}
 
 -- byte j of a word: "byte 0 least significant"
@@ -22,6 +22,14 @@ tabulate (suc n) f = f 0 ∷ tabulate n (λ i. f (suc i))
 -- entry c of a table
 abbrev pub at : List ℕ → ℕ → ℕ
 at table c = getD table c 0
+
+-- "Sums below drop the carry out of 64 bits."
+abbrev pub sum : ℕ → ℕ → ℕ
+sum a b = (a + b) % 2 ^ 64
+
+-- the word to which b is added to give a
+abbrev pub difference : ℕ → ℕ → ℕ
+difference a b = (a + (2 ^ 64 - b)) % 2 ^ 64
 
 -- f sends each word to a word, and g sends that back
 abbrev pub UndoesWord : (g f : ℕ → ℕ) → Type 0

@@ -1,6 +1,5 @@
 -- The proofs of generator's laws.
 pub mod Cells
-pub mod Sums
 pub mod Round
 pub mod Iterate
 pub mod GeneratorLaws

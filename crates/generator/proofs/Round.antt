@@ -9,13 +9,13 @@ use lib.Dec.{lit<}
 use lib.ListN.{take, drop, length-append, length-take, length-drop}
 use lib.Seq.{getD-take}
 use lib.Bits.{bitXor, xor-lt}
-use Rattle.galois.specs.Words.{at, UndoesWord}
+use Rattle.galois.specs.Words.{at, sum, UndoesWord}
 use Rattle.galois.proofs.Xor.{xor-cancel-r}
+use Rattle.galois.proofs.Sums.{difference-sum, sum-difference}
 use Rattle.generator.specs.declared.Kind.{Kind}
 use Rattle.generator.specs.declared.Kind.the-variants.{Ordinary, Initial}
-use Rattle.generator.specs.Registers.{Registers, EighteenWords, cell, sum, F, mixed, newS15With, nextWith, earlierR1, earlierR2, earlierAlphaS0, previousWith}
+use Rattle.generator.specs.Registers.{Registers, EighteenWords, cell, F, mixed, newS15With, nextWith, earlierR1, earlierR2, earlierAlphaS0, previousWith}
 use Rattle.generator.proofs.Cells.{shift-in-last, shift-in-at, shift-in-rest, first-rest, rest-last, append-lt, take-lt, cons-lt, drop-lt}
-use Rattle.generator.proofs.Sums.{difference-sum, sum-difference}
 
 word-pos : 0 < 2 ^ 64
 word-pos = lit< tt

@@ -2,10 +2,10 @@
 -- item 2: the step that hands over its word, and item 4: the new s15 by an equation of its own.
 use mathlib.Core.Path.{_≡_}
 use mathlib.Core.List.{List, [], _∷_, _++_}
-use Prim.Native.Nat.{ℕ, zero, suc, _+_, _-_, _%_, _^_, _<_}
+use Prim.Native.Nat.{ℕ, zero, suc, _^_, _<_}
 use lib.ListN.{length, take, drop}
 use lib.Bits.{bitXor}
-use Rattle.galois.specs.Words.{at}
+use Rattle.galois.specs.Words.{at, sum, difference}
 use Rattle.galois.specs.Alpha.{alphaTimes, alphaInverseTimes}
 use Rattle.substitution.specs.Substitution.{substitute, substituteInverse}
 use Rattle.generator.specs.declared.State.{State}
@@ -41,14 +41,6 @@ stateOf r size position = record { cells = r .cells; r1 = r .r1; r2 = r .r2; siz
 -- a state with other registers, its size mark and position kept
 abbrev pub withRegisters : State → Registers → State
 withRegisters s r = stateOf r (s .size) (s .position)
-
--- "Sums below drop the carry out of 64 bits."
-abbrev pub sum : ℕ → ℕ → ℕ
-sum a b = (a + b) % 2 ^ 64
-
--- the word to which b is added to give a
-abbrev pub difference : ℕ → ℕ → ℕ
-difference a b = (a + (2 ^ 64 - b)) % 2 ^ 64
 
 -- "F(x, y, z) = (x + y) ⊕ z."
 unfoldable pub F : ℕ → ℕ → ℕ → ℕ

@@ -2,14 +2,14 @@
 ghost use mathlib.Core.Path.{_≡_};
 ghost use mathlib.Core.List.{[], _∷_, _++_};
 ghost use lib.ListN.{drop, take};
-ghost use Rattle.generator.specs.Registers.{F, difference, mixed, keystreamWord, registersOf, steppedBy};
+ghost use Rattle.generator.specs.Registers.{F, mixed, keystreamWord, registersOf, steppedBy};
 ghost use Rattle.substitution.specs.Substitution.{lookUp};
 ghost use Rattle.generator.specs.Functions.{newS15By, nextIn, stepBackBy};
 use galois::alpha_inverse_times_by_table;
 use galois::alpha_times_by_table;
 use std::num::wrapping_add_u64;
-use std::num::wrapping_sub_u64;
 use substitution::substitute_word_inverse_by_tables;
+use words::subtract;
 
 // The cells s0..s15, the registers r1 and r2, the size mark (256 or 512) and the byte position, which is the point that the state claims. To C
 // it is twenty 64-bit words in this order.
@@ -41,13 +41,6 @@ fn filter(x: u64, y: u64, z: u64) -> u64
     ensures { λ r. ⌜ r ≡ F x y z ⌝ }
 {
     wrapping_add_u64(x, y) ^ z
-}
-
-// The word to which b is added to give a.
-fn subtract(a: u64, b: u64) -> u64
-    ensures { λ r. ⌜ r ≡ difference a b ⌝ }
-{
-    wrapping_sub_u64(a, b)
 }
 
 // The word x, and F into it in a step of initialisation.

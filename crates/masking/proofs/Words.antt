@@ -11,15 +11,6 @@ use Rattle.galois.proofs.Spread.{tabulate-ext}
 use Rattle.masking.specs.Masking.{byteAt, masked, MaskingLaws}
 use Rattle.masking.proofs.Masked.{masked-tabulate}
 
-pub tabulate-all : (l : List ℕ) → l ≡ tabulate (length l) (at l)
-tabulate-all [] = refl
-tabulate-all (x ∷ l) = ap (λ (t : List ℕ). x ∷ t) (tabulate-all l)
-
--- eight elements, each set
-pub all-set : {a b c d e f g h : ℕ} (l : List ℕ) → length l ≡ 8 → set (set (set (set (set (set (set (set l 0 a) 1 b) 2 c) 3 d) 4 e) 5 f) 6 g) 7 h ≡ a ∷ b ∷ c ∷ d ∷ e ∷ f ∷ g ∷ h ∷ []
-all-set {a} {b} {c} {d} {e} {f} {g} {h} l n =
-    ap (λ (k : List ℕ). set (set (set (set (set (set (set (set k 0 a) 1 b) 2 c) 3 d) 4 e) 5 f) 6 g) 7 h) (tabulate-all l ∙ ap (λ (m : ℕ). tabulate m (at l)) n)
-
 -- the bytes of a word come round after eight
 pub byte-at-mod : (z p q : ℕ) → p % 8 ≡ q % 8 → byteAt z p ≡ byteAt z q
 unfolding byteAt

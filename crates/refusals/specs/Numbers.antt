@@ -1,5 +1,5 @@
 -- Document 01, the table of returned numbers, and those of document 02: each number has one name, here, in src/numbers.rt and in the headers for C,
--- up to 10 and 14 after STRUMOK_, and 5 and 11 to 13 after ORDERS_.
+-- up to 10, 14 and 15 after STRUMOK_, and 5 and 11 to 13 after ORDERS_.
 use mathlib.Core.Path.{_≡_}
 use mathlib.Core.List.{List, [], _∷_}
 use Prim.Native.Nat.{ℕ}
@@ -70,6 +70,12 @@ refusedTooManyFields = 13
 abbrev pub refusedZeroKey : ℕ
 refusedZeroKey = 14
 
+-- ---- document 02, item 5
+
+-- "15 is a key, source or target block whose length is not 32, the only test"
+abbrev pub refusedBlockLength : ℕ
+refusedBlockLength = 15
+
 -- ---- the law: proofs/NumberLaws.antt has `number-laws : NumberLaws`
 
 -- every number, in the order above
@@ -77,8 +83,8 @@ abbrev pub everyNumber : List ℕ
 everyNumber =
     accepted ∷ refusedKeyLength ∷ refusedIvLength ∷ refusedSizeMark ∷ refusedPositionAbove ∷ refusedTargetShorter ∷ refusedWindowPastEnd ∷ refusedNewPositionAbove
     ∷ refusedNewPositionBelow ∷ refusedKeyTargetLength ∷ refusedNoKeyLeads ∷ refusedNotCsv ∷ refusedRaggedRow ∷ refusedTooManyFields
-    ∷ refusedZeroKey ∷ []
+    ∷ refusedZeroKey ∷ refusedBlockLength ∷ []
 
 pub record NumberLaws : Type 0 where
   -- in numerals
-  pub numbers : everyNumber ≡ 0 ∷ 1 ∷ 2 ∷ 3 ∷ 4 ∷ 5 ∷ 6 ∷ 7 ∷ 8 ∷ 9 ∷ 10 ∷ 11 ∷ 12 ∷ 13 ∷ 14 ∷ []
+  pub numbers : everyNumber ≡ 0 ∷ 1 ∷ 2 ∷ 3 ∷ 4 ∷ 5 ∷ 6 ∷ 7 ∷ 8 ∷ 9 ∷ 10 ∷ 11 ∷ 12 ∷ 13 ∷ 14 ∷ 15 ∷ []

@@ -44,3 +44,6 @@ pub const REFUSED_TOO_MANY_FIELDS: u64 = 13;
 
 // The key's bytes are all zero.
 pub const REFUSED_ZERO_KEY: u64 = 14;
+
+// The length of the key, the source or the target of a block call is not 32.
+pub const REFUSED_BLOCK_LENGTH: u64 = 15;

@@ -1,4 +1,5 @@
-// The cipher's calls for C: each over a state of twenty words, with the number of its answer returned; and the tables that a caller may hold.
+// The calls for C: those of the stream cipher, each over a state of twenty words, with the number of its answer returned; the tables that a caller may
+// hold; and the block cipher.
 ghost use mathlib.Core.Path.{_≡_};
 ghost use Rattle.generator.specs.declared.Kind.the-variants.{Ordinary};
 ghost use Rattle.substitution.specs.Substitution.{stepTables};
@@ -10,8 +11,11 @@ ghost use Rattle.applying.specs.Applying.{applied, appliedTarget, windowed, win
 ghost use Rattle.applying.specs.AnyStep.{appliedBy, appliedTargetBy, windowedBy, windowedBufferBy};
 ghost use Rattle.checking.specs.Checking.{checked, checkedTarget};
 ghost use Rattle.checking.specs.CheckingLaws.{ChecksExactly};
+ghost use Rattle.kalyna.specs.Calls.{blockNumber, encipheredTarget, decipheredTarget};
 ghost use Rattle.twenty_words.specs.TwentyWords.{stateIn, wordsOf};
 use columns::step_tables;
+use kalyna::decipher;
+use kalyna::encipher;
 use strumok::apply;
 use strumok::apply_with;
 use strumok::check;
@@ -126,4 +130,24 @@ pub extern "C" fn strumok_window_with(
 {
     let a = window_with(state_in(*state), tables, buffer, start, count);
     leave(state, a)
+}
+
+// ---- the block cipher
+
+// The source enciphered under the key, to the target, all of 32 bytes; or a refusal, with nothing written.
+#[no_mangle]
+pub extern "C" fn strumok_block_encipher(key: &[u8], source: &[u8], target: &mut [u8]) -> u64
+    ensures { λ r. ⌜ r ≡ blockNumber (now (key .entry)) (now (source .entry)) (now (target .entry)) ⌝ }
+    ensures { λ _. ⌜ now (target .exit) ≡ encipheredTarget (now (key .entry)) (now (source .entry)) (now (target .entry)) ⌝ }
+{
+    encipher(key, source, target)
+}
+
+// The source deciphered under the key, to the target, all of 32 bytes; or a refusal, with nothing written.
+#[no_mangle]
+pub extern "C" fn strumok_block_decipher(key: &[u8], source: &[u8], target: &mut [u8]) -> u64
+    ensures { λ r. ⌜ r ≡ blockNumber (now (key .entry)) (now (source .entry)) (now (target .entry)) ⌝ }
+    ensures { λ _. ⌜ now (target .exit) ≡ decipheredTarget (now (key .entry)) (now (source .entry)) (now (target .entry)) ⌝ }
+{
+    decipher(key, source, target)
 }

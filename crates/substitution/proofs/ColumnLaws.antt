@@ -1,7 +1,9 @@
 -- The eight tables of a circulant matrix, each byte sent on first, look up to its product. All eight columns are this law.
 use mathlib.Core.Path.{_≡_, sym, ap, _∙_}
 use mathlib.Core.List.{List, []}
-use Prim.Native.Nat.{ℕ, _<_}
+use Prim.Native.Nat.{ℕ, _+_, _%_, _<_}
+use native.Mathlib.Nat.{mod-lt, zero-lt-suc}
+use native.Mathlib.Omega.{arith}
 use lib.ListN.{getD}
 use Rattle.galois.specs.Words.{byte, word, tabulate, at}
 use Rattle.galois.specs.Field.{gmul}
@@ -9,8 +11,9 @@ use Rattle.galois.proofs.Linear.{Linear}
 use Rattle.galois.proofs.Gmul.{gmul-linear}
 use Rattle.galois.proofs.Bytes.{tabulate-at, byte-lt, byte-word, word-ext, word-linear}
 use Rattle.galois.proofs.Spread.{tabulate-ext, spread, spread-is}
-use Rattle.matrix.specs.Matrix.{circulant, rowTimes, circulantTimes}
-use Rattle.substitution.specs.Substitution.{columnTimes, columnEntry, columnTables, lookUp}
+use Rattle.matrix.specs.Matrix.{placeInRow, circulant, rowTimes, circulantTimes}
+use Rattle.substitution.specs.Substitution.{columnTimes, columnEntry, columnTables, lookUp, halvesExchanged}
+use Rattle.substitution.specs.SubstitutionLaws.{SecondFour}
 use Rattle.matrix.proofs.XorSum.{xorSum-ext, word-xorSum}
 use Rattle.matrix.proofs.Circulant.{ByteRow, term-lt}
 
@@ -27,6 +30,23 @@ module _ (row : List ℕ) (b : ByteRow row) (f : ℕ → ℕ → ℕ) (bytes : (
       xorSum-ext 8 (λ j. at (getD (columnTables row f) j []) (byte w j)) (λ j. columnTimes row j (byte v j))
       (λ j l. entry-at j (byte w j) l (byte-lt w j) ∙ ap (columnTimes row j) (sym (byte-word 8 (λ j. f j (byte w j)) (λ j. bytes j (byte w j) (byte-lt w j)) j l)))
       ∙ sym (word-xorSum 8 8 (λ i j. gmul (circulant row i j) (byte v j)) (λ i j. term-lt row b i j (byte v j)))
+
+  -- ---- where tables 4 + j and j send bytes alike, the second four are the first four with the halves exchanged
+
+  column-exchanged : (j x : ℕ) → j < 4 → columnTimes row (4 + j) x ≡ halvesExchanged (columnTimes row j x)
+  unfolding halvesExchanged
+  column-exchanged j x h =
+      word-ext 8 (λ i. gmul (circulant row i (4 + j)) x) (λ i. byte (columnTimes row j x) ((i + 4) % 8))
+      (λ i hi. ap (λ (p : ℕ). gmul (at row p) x) (place i hi)
+      ∙ sym (byte-word 8 (λ i. gmul (circulant row i j) x) (λ i. term-lt row b i j x) ((i + 4) % 8) (mod-lt (i + 4) (zero-lt-suc 7))))
+    where
+      place : (i : ℕ) → i < 8 → placeInRow i (4 + j) ≡ placeInRow ((i + 4) % 8) j
+      place i hi = omega arith
+
+  pub columns-second-four : ((j c : ℕ) → f (4 + j) c ≡ f j c) → SecondFour (columnTables row f)
+  columns-second-four again j c hj hc =
+      entry-at (4 + j) c (omega arith) hc ∙ ap (columnTimes row (4 + j)) (again j c) ∙ column-exchanged j (f j c) hj
+      ∙ ap halvesExchanged (sym (entry-at j c (omega arith) hc))
 
 -- ---- the same tables, worked out from the columns at the powers of two
 

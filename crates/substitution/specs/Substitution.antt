@@ -1,6 +1,6 @@
 -- T, its inverse, T through eight tables, and the ten tables of a step.
 use mathlib.Core.List.{List, [], _∷_, _++_}
-use Prim.Native.Nat.{ℕ}
+use Prim.Native.Nat.{ℕ, _+_, _%_}
 use lib.ListN.{getD}
 use Rattle.galois.specs.Words.{byte, word, tabulate, at}
 use Rattle.galois.specs.Field.{gmul}
@@ -43,6 +43,10 @@ lookUp tables w = xorSum 8 (λ j. at (getD tables j []) (byte w j))
 -- the same of the tables of a matrix, and then each byte through its table: T inverted, where these are the tables of its two halves
 abbrev pub lookUpThrough : (columns bytes : List (List ℕ)) → ℕ → ℕ
 lookUpThrough columns bytes w = through bytes (lookUp columns w)
+
+-- the two halves of a word exchanged: byte i is byte i + 4, counted modulo 8
+unfoldable pub halvesExchanged : ℕ → ℕ
+halvesExchanged w = word 8 (λ i. byte w ((i + 4) % 8))
 
 -- the ten tables of a step in one: the eight of T, then that of α, then that of its inverse
 abbrev pub stepTables : List (List ℕ)

@@ -2,7 +2,7 @@
 use mathlib.Core.Path.{_≡_}
 use Prim.Native.Nat.{ℕ, _^_, _<_}
 use native.Mathlib.Omega.{arith}
-use Rattle.generator.specs.Registers.{sum, difference}
+use Rattle.galois.specs.Words.{sum, difference}
 
 module _ (a b : ℕ) (ha : a < 2 ^ 64) (hb : b < 2 ^ 64) where
   pub difference-sum : difference (sum a b) b ≡ a

@@ -1,0 +1,35 @@
+-- The laws of the two calls that specs/CallLaws.antt states.
+use mathlib.Core.Path.{_≡_, refl, ap, _∙_}
+use mathlib.Core.List.{List, [], _∷_}
+use Prim.Native.Nat.{ℕ}
+use lib.ListN.{length}
+use Rattle.refusals.specs.Tests.{written}
+use Rattle.refusals.proofs.Lines.{refuses-in-order, writes-nothing}
+use Rattle.kalyna_cipher.specs.Blocks.{Bytes32}
+use Rattle.kalyna_cipher.specs.Kalyna.{encipheredBytes, decipheredBytes}
+use Rattle.kalyna_cipher.specs.Inverses.{Undone}
+use Rattle.kalyna_cipher.proofs.KalynaLaws.{kalyna-laws}
+use Rattle.kalyna.specs.Calls.{blockLine, blockTests}
+use Rattle.kalyna.specs.CallLaws.{CallLaws}
+use Rattle.kalyna.proofs.Calls.{block-decides, written-32}
+
+-- what one call writes, the other takes back
+module _ (f g : List ℕ → List ℕ → List ℕ) (key source target other : List ℕ) (u : Undone Bytes32 (g key) (f key)) where
+  taken-back : length key ≡ 32 → Bytes32 source → length target ≡ 32 → length other ≡ 32
+      → (let made : List ℕ = written (blockTests key source target) (f key source) target in written (blockTests key made other) (g key made) other) ≡ source
+  taken-back ek b et eo =
+      ap (λ (made : List ℕ). written (blockTests key made other) (g key made) other) (written-32 f key source target ek (b .thirty-two) et)
+      ∙ written-32 g key (f key source) other ek (u .keeps source b .thirty-two) eo ∙ u .undone source b
+
+pub call-laws : CallLaws
+call-laws =
+    record {
+      refuses = λ key source target.
+          refuses-in-order (blockTests key source target) (blockLine (length key) (length source) (length target) ∷ []) (15 ∷ []) tt refl (block-decides (length key) (length source) (length target), λ e. tt);
+      refused-encipher = λ key source target. writes-nothing (blockTests key source target) (encipheredBytes key source) target;
+      refused-decipher = λ key source target. writes-nothing (blockTests key source target) (decipheredBytes key source) target;
+      enciphers = written-32 encipheredBytes;
+      deciphers = written-32 decipheredBytes;
+      decipher-encipher = λ key source target other. taken-back encipheredBytes decipheredBytes key source target other (kalyna-laws .on-bytes key .back);
+      encipher-decipher = λ key source target other. taken-back decipheredBytes encipheredBytes key source target other (kalyna-laws .on-bytes key .forth);
+    }

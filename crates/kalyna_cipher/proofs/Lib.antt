@@ -1,0 +1,7 @@
+-- The proofs of the laws of kalyna_cipher.
+pub mod Inverses
+pub mod Blocks
+pub mod Parts
+pub mod Keys
+pub mod KalynaLaws
+pub mod WorkedBlock

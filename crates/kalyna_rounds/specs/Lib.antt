@@ -1,0 +1,3 @@
+-- The definitions that the contracts of kalyna_rounds cite, and its laws.
+pub mod RoundsByTables
+pub mod RoundsByTablesLaws
