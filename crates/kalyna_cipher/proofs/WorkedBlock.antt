@@ -10,10 +10,11 @@ use Rattle.sboxes.specs.Sboxes.{through}
 use Rattle.matrix.specs.Matrix.{rowTimes, circulantTimes}
 use Rattle.kalyna_cipher.specs.Blocks.{blockOf, bytesOf}
 use Rattle.kalyna_cipher.specs.Rounds.{added, xored, substituted, shifted, mixed, round}
-use Rattle.kalyna_cipher.specs.Enciphering.{rounds, encipherWith}
+use Rattle.kalyna_cipher.specs.Enciphering.{encipherWith}
 use Rattle.kalyna_cipher.specs.RoundKeys.{intermediateKeyWith, evenKeyWith, rotatedBytes, evenOrOdd}
 use Rattle.kalyna_cipher.specs.Kalyna.{encipheredBytes}
 use Rattle.kalyna_cipher.specs.WorkedBlock.{bytesUpFrom, WorkedBlock}
+use Rattle.kalyna_cipher.proofs.KalynaLaws.{kalyna-laws}
 
 -- a test that two lists are the same, which is soon done where they are not
 abbrev same : List ℕ → List ℕ → Bool
@@ -41,14 +42,21 @@ is-intermediate : intermediateKeyWith round key ≡ intermediate
 unfolding key gmul through rowTimes circulantTimes blockOf added xored substituted shifted mixed round intermediateKeyWith
 is-intermediate = same-list _ _ tt
 
--- the block enciphered, with m for the intermediate key
+-- k_n, with m for the intermediate key
+abbrev keyWith : (m : List ℕ) (n : ℕ) → List ℕ
+keyWith m n = evenOrOdd (n % 2) (evenKeyWith round key m (n / 2))
+
+-- the block enciphered by fourteen rounds, with m for the intermediate key
 abbrev encipheredFrom : (m : List ℕ) → List ℕ
-encipheredFrom m = bytesOf (encipherWith round (λ n. evenOrOdd (n % 2) (evenKeyWith round key m (n / 2))) (blockOf (bytesUpFrom 32)))
+encipheredFrom m = bytesOf (encipherWith round (keyWith m) (blockOf (bytesUpFrom 32)))
 
 from-intermediate : encipheredBytes (bytesUpFrom 0) (bytesUpFrom 32) ≡ encipheredFrom intermediate
 unfolding key
 from-intermediate = ap encipheredFrom is-intermediate
 
 pub worked-block : WorkedBlock
-unfolding key gmul through rowTimes circulantTimes blockOf bytesOf added xored substituted shifted mixed round rounds encipherWith evenKeyWith rotatedBytes
-worked-block = record { enciphering = from-intermediate ∙ same-list _ _ tt }
+unfolding key gmul through rowTimes circulantTimes blockOf bytesOf added xored substituted shifted mixed round evenKeyWith rotatedBytes
+worked-block =
+    record {
+      enciphering = from-intermediate ∙ ap bytesOf (kalyna-laws .fourteen-rounds round (keyWith intermediate) (blockOf (bytesUpFrom 32))) ∙ same-list _ _ tt;
+    }

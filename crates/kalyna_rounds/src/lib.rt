@@ -55,8 +55,8 @@ pub fn substitution_four() -> [[u64; 256]; 4]
 pub fn matrix_inverse_four() -> [[u64; 256]; 4]
     ensures { λ r. ⌜ r ≡ matrixInverseFour ⌝ }
 {
-    let t = matrix_inverse_tables();
-    [t[0], t[1], t[2], t[3]]
+    let m = matrix_inverse_tables();
+    [m[0], m[1], m[2], m[3]]
 }
 
 // ---- a round
