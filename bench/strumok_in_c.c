@@ -5,14 +5,13 @@
  */
 #include "strumok_in_c.h"
 
-#include <stdio.h>
+#include "tables_in_c.h"
+
 #include <string.h>
 
 enum { CELLS = 16, BLOCK = 8 * CELLS, IV_LENGTH = 32, LONGEST_KEY = 64, INITIAL_STEPS = 32 };
 
-/* Row 0 of M and of its inverse, and the rows of alpha and of its inverse: the first byte is the most significant. */
-#define ROW_OF_M UINT64_C(0x0101050108060704)
-#define ROW_OF_M_INVERSE UINT64_C(0xAD9576A82F49D7CA)
+/* The rows of alpha and of its inverse: the first byte is the most significant. */
 #define ROW_OF_ALPHA UINT64_C(0xD73F04125E000004)
 #define ROW_OF_ALPHA_INVERSE UINT64_C(0x47FCC6018A990000)
 
@@ -23,54 +22,6 @@ static struct {
     uint64_t m_inverse[8][256]; /* entry b of table j: column j of the inverse times b */
     uint8_t pi_inverse[4][256];
 } tables;
-
-/* The product of two bytes modulo y^8+y^4+y^3+y^2+1. */
-static uint8_t product(uint8_t a, uint8_t b)
-{
-    unsigned sum = 0;
-
-    for (int bit = 7; bit >= 0; bit--) {
-        sum = sum << 1 ^ (sum >> 7) * 0x11D;
-        if (b >> bit & 1)
-            sum ^= a;
-    }
-    return (uint8_t)sum;
-}
-
-/* Each byte of the row times c. */
-static uint64_t row_times(uint64_t row, uint8_t c)
-{
-    uint64_t word = 0;
-
-    for (unsigned j = 0; j < 8; j++)
-        word |= (uint64_t)product((uint8_t)(row >> 8 * j), c) << 8 * j;
-    return word;
-}
-
-/* Column j of the matrix that has this row 0, each row being the one before rotated right: its bytes are the row's, rotated. */
-static uint64_t column(uint64_t row, unsigned j)
-{
-    const unsigned bits = 8 * (j + 1) % 64;
-
-    return bits == 0 ? row : row << bits | row >> (64 - bits);
-}
-
-static int read_pi(const char *name, uint8_t pi[4][256])
-{
-    FILE *file = fopen(name, "r");
-    unsigned entry, count = 0;
-
-    if (file == NULL)
-        return 1;
-    if (fscanf(file, "#%*[^\n]") != EOF) {
-        while (count < 4 * 256 && fscanf(file, "%2x", &entry) == 1) {
-            pi[count / 256][count % 256] = (uint8_t)entry;
-            count++;
-        }
-    }
-    fclose(file);
-    return count != 4 * 256;
-}
 
 int strumok_in_c_fill_tables(const char *pi_file)
 {

@@ -1,10 +1,11 @@
 /*
- * The stream cipher Strumok (DSTU 8845:2019) for C: the functions that target/staticlib/libstrumok_c.a defines, which
- * `rt staticlib strumok_c` proves and builds for x86-64.
+ * The stream cipher Strumok (DSTU 8845:2019), and the block cipher of DSTU 7624:2014 (Kalyna) with block and key of 256 bits, for C: the
+ * functions that target/staticlib/libstrumok_c.a defines, which `rt staticlib strumok_c` proves and builds for x86-64.
  *
  * strumok_open makes a state from a key and an IV, at position 0. strumok_apply and strumok_window apply the keystream from the state's
  * position on, in portions of any length, and leave the state behind the last byte; enciphering and deciphering are the same call.
  * strumok_move goes to another byte, either way. strumok_check tells whether a stored state belongs to an IV, and hands back its key.
+ * strumok_block_encipher and strumok_block_decipher are the block cipher, under which keys are wrapped; they take no state.
  *
  * Every call but strumok_tables returns STRUMOK_ACCEPTED or the number of a refusal: the lowest that applies of those listed with the call,
  * which are tested in that order. A refused opening writes the blank state, twenty zeros; any other refusal leaves the state and all buffers as they were.
@@ -23,8 +24,8 @@
  * and buffers may run at the same time. A state, and a buffer that is written, is in one call at a time; what is only read may be shared:
  * tables, keys, IVs, sources, the state of a check.
  *
- * A state is as secret as its key: strumok_check turns the one into the other. So is a key target. Secrecy of timing is not claimed: tables
- * are indexed by bytes that are secret. No call wipes what it leaves on the stack.
+ * A state is as secret as its key: strumok_check turns the one into the other. So is a key target, and the target of a deciphered key.
+ * Secrecy of timing is not claimed: tables are indexed by bytes that are secret. No call wipes what it leaves on the stack.
  *
  * Stack, measured on x86-64: at most 22 KiB for a call, most of it for tables, 42 KiB for strumok_move where the distance is negative, and
  * 2 KiB for the two calls with tables that the caller holds.
@@ -82,7 +83,8 @@ enum {
     STRUMOK_REFUSED_NEW_POSITION_BELOW = 8, /* the new position would be below 0 */
     STRUMOK_REFUSED_KEY_TARGET_LENGTH = 9,  /* the length of the key target is not an eighth of the size mark */
     STRUMOK_REFUSED_NO_KEY_LEADS = 10,      /* no key of that size that opening accepts leads, with that IV, to this state */
-    STRUMOK_REFUSED_ZERO_KEY = 14           /* the bytes of the key are all zero */
+    STRUMOK_REFUSED_ZERO_KEY = 14,          /* the bytes of the key are all zero */
+    STRUMOK_REFUSED_BLOCK_LENGTH = 15       /* the length of the key, the source or the target of the block cipher is not 32 */
 };
 
 /*
@@ -150,6 +152,36 @@ uint64_t strumok_apply_with(uint64_t state[STRUMOK_STATE_WORDS], const uint64_t 
 STRUMOK_MUST_USE STRUMOK_NONNULL
 uint64_t strumok_window_with(uint64_t state[STRUMOK_STATE_WORDS], const uint64_t tables[STRUMOK_TABLES_WORDS], uint8_t *buffer,
                              size_t buffer_len, size_t start, size_t count);
+
+/*
+ * The block cipher of DSTU 7624:2014 with block and key of 256 bits, by which keys of entries are wrapped under a master key. Its bytes
+ * stand as that standard has them: the first eight are word 0, least significant byte first. A key of zeros is accepted here.
+ *
+ * An entry key of 64 bytes is wrapped in two calls, each half enciphered by itself, and unwrapped in two:
+ *   - equal halves show: two equal halves give, under one master key, two equal enciphered halves, and equal keys give equal wrapped keys;
+ *   - nothing is authenticated: a changed wrapped key deciphers to another key without any refusal, whether bytes of it were altered, its
+ *     halves exchanged or a half of another one put in; and with another master key some key is deciphered too.
+ */
+#define STRUMOK_BLOCK_BYTES 32
+
+/*
+ * Enciphers the block of 32 bytes in the source, with a key of 32, to a target of 32.
+ *
+ * Refusals, with the target as it was: 15. It is the only test.
+ */
+STRUMOK_MUST_USE STRUMOK_NONNULL
+uint64_t strumok_block_encipher(const uint8_t *key, size_t key_len, const uint8_t *source, size_t source_len, uint8_t *target,
+                                size_t target_len);
+
+/*
+ * Deciphers the block of 32 bytes in the source, with a key of 32, to a target of 32. It undoes strumok_block_encipher with the same key, and
+ * strumok_block_encipher undoes it.
+ *
+ * Refusals, with the target as it was: 15. It is the only test.
+ */
+STRUMOK_MUST_USE STRUMOK_NONNULL
+uint64_t strumok_block_decipher(const uint8_t *key, size_t key_len, const uint8_t *source, size_t source_len, uint8_t *target,
+                                size_t target_len);
 
 #ifdef __cplusplus
 }

@@ -2,7 +2,8 @@
 //!
 //! A [`State`] is opened from a key and an IV, then applied to portions, worked over windows of a
 //! buffer, moved forward or back, or checked against an IV. Every call is one call of the proved
-//! library; this crate adds nothing but Rust's types. The module [`orders`] reads order files.
+//! library; this crate adds nothing but Rust's types. The module [`block`] is the block cipher of
+//! DSTU 7624:2014, under which keys are wrapped; the module [`orders`] reads order files.
 //!
 //! ```
 //! use strumok::State;
@@ -31,6 +32,7 @@
 #![deny(unsafe_op_in_unsafe_fn)]
 #![warn(missing_docs)]
 
+pub mod block;
 pub mod orders;
 
 use std::fmt;
@@ -194,7 +196,7 @@ impl fmt::Debug for State {
     }
 }
 
-/// Why a call was refused, as one of the numbers 1 to 10 and 14.
+/// Why a call was refused, as one of the numbers 1 to 10, 14 and 15.
 #[derive(Clone, Copy, Debug, PartialEq, Eq)]
 pub struct Refusal {
     number: u64,
@@ -221,6 +223,7 @@ impl fmt::Display for Refusal {
             9 => "the key target length is not size mark / 8",
             10 => "no key of that size that opening accepts leads, with that IV, to this state",
             14 => "the key is all zeros",
+            15 => "the key, source or target length of the block cipher is not 32",
             _ => "unknown number",
         };
         write!(f, "refused {}: {}", self.number, reason)

@@ -1,11 +1,12 @@
-//! The five calls with their refusals, in the shape of the proved library's C functions, and what
-//! the cipher program must write.
+//! The calls with their refusals, in the shape of the proved library's C functions: five of the
+//! stream cipher, two of the block cipher; and what the cipher program must write.
 //!
 //! Each call answers the lowest number of a refusal that applies, or 0. Positions and window ends
 //! are summed as whole numbers.
 
 use crate::cipher::{Registers, Step};
 use crate::field::Tables;
+use crate::kalyna;
 
 /// A state: cells 0 to 15, r1, r2, size mark, position.
 pub type State = [u64; 20];
@@ -67,6 +68,17 @@ fn opening(key: &[u8], iv: &[u8]) -> u64 {
         (2, iv.len() != 32),
         (14, key.iter().all(|byte| *byte == 0)),
     ])
+}
+
+/// The number of enciphering or deciphering a block with a key, source and target like these.
+fn block_number(key: &[u8], source: &[u8], target: &[u8]) -> u64 {
+    let lengths = [key.len(), source.len(), target.len()];
+    lowest(&[(15, lengths != [32; 3])])
+}
+
+/// The words of a block or of its key.
+fn block_words(bytes: &[u8]) -> kalyna::Words {
+    kalyna::words(bytes.try_into().expect("32 bytes"))
 }
 
 /// The position this far from the state's, as a whole number.
@@ -186,6 +198,30 @@ impl Cipher {
             }
         }
         *state = state_of(&registers, state[SIZE_MARK], position);
+    }
+
+    /// Writes the block in the source, enciphered with this key, to the target.
+    pub fn encipher_block(&self, key: &[u8], source: &[u8], target: &mut [u8]) -> u64 {
+        let number = block_number(key, source, target);
+        if number == 0 {
+            let t = |w| self.tables.t(w);
+            let keys = kalyna::round_keys(&t, block_words(key));
+            let block = kalyna::encipher(&t, &keys, block_words(source));
+            target.copy_from_slice(&kalyna::bytes(block));
+        }
+        number
+    }
+
+    /// Writes the block in the source, deciphered with this key, to the target.
+    pub fn decipher_block(&self, key: &[u8], source: &[u8], target: &mut [u8]) -> u64 {
+        let number = block_number(key, source, target);
+        if number == 0 {
+            let (t, t_inverse) = (|w| self.tables.t(w), |w| self.tables.t_inverse(w));
+            let keys = kalyna::round_keys(&t, block_words(key));
+            let block = kalyna::decipher(&t_inverse, &keys, block_words(source));
+            target.copy_from_slice(&kalyna::bytes(block));
+        }
+        number
     }
 
     /// What the cipher program must write for this input: a byte giving the key length, the key,

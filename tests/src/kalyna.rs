@@ -1,5 +1,6 @@
-//! The block cipher of DSTU 7624:2014 (Kalyna), for blocks and keys of 256 bits. Strumok has its π
-//! tables and its matrix M from there, so that this standard's vectors test them too.
+//! The block cipher of DSTU 7624:2014 (Kalyna), for blocks and keys of 256 bits, written from its
+//! description. Strumok has its π tables and its matrix M from there, so that this standard's
+//! vectors test them too.
 //!
 //! A block or key is four words: word 0 has its first eight bytes, the least significant first.
 //! Functions take T or its inverse as an argument, so that a test can see what is looked up.

@@ -1,12 +1,15 @@
-//! The published vectors of DSTU 8845:2019; keys of 512 bits that load, each with an IV of its own,
-//! what the key of zeros loads; and the list of all these that the program `vectors` prints. A
-//! proved program prints the same list.
+//! The published vectors of DSTU 8845:2019 and of DSTU 7624:2014; keys of 512 bits that load, each
+//! with an IV of its own, what the key of zeros loads; and the list of all these that the program
+//! `vectors` prints, with blocks and keys of wrong lengths. A proved program prints the same list.
 
 use crate::calls::{Cipher, BLANK};
 use std::fmt::Write;
 
 /// The file of published vectors: lines `BITS key KEY iv IV z Z0 .. Z7`, and comments behind #.
 const PUBLISHED: &str = include_str!("../../data/dstu8845-vectors.txt");
+
+/// That of DSTU 7624: lines of key, plaintext and ciphertext, and comments behind #.
+const PUBLISHED_BLOCKS: &str = include_str!("../../data/dstu7624-vectors.txt");
 
 /// A published vector: the words Z0 .. Z7 of a key and IV.
 pub struct Vector {
@@ -49,6 +52,25 @@ fn read_vector(line: &str) -> Vector {
     vector
 }
 
+/// Key, plaintext and ciphertext of the five published vectors of DSTU 7624, in the order of their
+/// file.
+pub fn published_blocks() -> Vec<[[u8; 32]; 3]> {
+    let read_line = |line: &str| {
+        let parts: Vec<[u8; 32]> = line
+            .split(' ')
+            .map(|hex| read_bytes(hex).try_into().expect("32 bytes"))
+            .collect();
+        parts.try_into().expect("key, plaintext and ciphertext")
+    };
+    let lines = PUBLISHED_BLOCKS.lines();
+    let vectors: Vec<_> = lines
+        .filter(|line| !line.starts_with('#'))
+        .map(read_line)
+        .collect();
+    assert_eq!(vectors.len(), 5, "five published vectors");
+    vectors
+}
+
 /// The bytes of a string of hexadecimal digits.
 pub fn read_bytes(hex: &str) -> Vec<u8> {
     (0..hex.len())
@@ -89,10 +111,15 @@ pub fn iv_of_k4(iv: &[u8], word: u64) -> Vec<u8> {
 }
 
 /// The list: a line for each published vector, then the keys of zeros, and two keys that load what
-/// a key of zeros loads.
+/// a key of zeros loads; then the published blocks, and keys and blocks of wrong lengths.
 pub fn list(cipher: &Cipher) -> String {
     let alike = [1, 1 << 63].map(|word| alike_lines(cipher, word));
-    published_lines(cipher) + &zero_lines(cipher) + &alike.concat()
+    let lengths = [
+        length_lines(cipher, "encipher", Cipher::encipher_block),
+        length_lines(cipher, "decipher", Cipher::decipher_block),
+    ];
+    let parts = [published_lines(cipher), zero_lines(cipher)];
+    parts.concat() + &alike.concat() + &block_lines(cipher) + &lengths.concat()
 }
 
 fn published_lines(cipher: &Cipher) -> String {
@@ -135,5 +162,43 @@ fn alike_lines(cipher: &Cipher, word: u64) -> String {
     writeln!(list, "open 512 K4 = IV3 = IV1 = {word:016x}: {number}").unwrap();
     writeln!(list, "check with that IV: {}", check(&iv)).unwrap();
     writeln!(list, "check with an IV of zeros: {}", check(&[0; 32])).unwrap();
+    list
+}
+
+/// A call of the block cipher: with key, source and target.
+type BlockCall = fn(&Cipher, &[u8], &[u8], &mut [u8]) -> u64;
+
+/// A line for each published plaintext enciphered and each published ciphertext deciphered.
+fn block_lines(cipher: &Cipher) -> String {
+    let mut list = String::new();
+    for (i, [key, plain, enciphered]) in published_blocks().iter().enumerate() {
+        let calls: [(&str, BlockCall, &[u8]); 2] = [
+            ("enciphered", Cipher::encipher_block, plain),
+            ("deciphered", Cipher::decipher_block, enciphered),
+        ];
+        for (name, call, source) in calls {
+            let mut target = [0; 32];
+            let number = call(cipher, key, source, &mut target);
+            writeln!(list, "block {} {name}: {number} {}", i + 1, hex(&target)).unwrap();
+        }
+    }
+    list
+}
+
+/// A line for each of key, source and target with a byte too few and with one too many: key and
+/// source are zeros, and the target is bytes FF.
+fn length_lines(cipher: &Cipher, name: &str, call: BlockCall) -> String {
+    let mut list = String::new();
+    for (i, argument) in ["key", "source", "target"].into_iter().enumerate() {
+        for wrong in [31, 33] {
+            let mut lengths = [32; 3];
+            lengths[i] = wrong;
+            let [key, source, target] = lengths;
+            let mut target = vec![0xff; target];
+            let number = call(cipher, &vec![0; key], &vec![0; source], &mut target);
+            let target = hex(&target);
+            writeln!(list, "{name}, {argument} of {wrong}: {number} {target}").unwrap();
+        }
+    }
     list
 }

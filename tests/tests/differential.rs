@@ -1,4 +1,5 @@
-//! The proved library beside the other implementation, on random inputs and at the edges.
+//! The proved library's stream cipher beside the other implementation, on random inputs and at the
+//! edges.
 //!
 //! After every call the answer's number, all twenty words of the state and every byte of every
 //! buffer are compared, and the guard bytes around the buffers too; and after a refused call, that

@@ -6,25 +6,7 @@ use std::cell::RefCell;
 use strumok_tests::cipher::{Registers, Step};
 use strumok_tests::field::Tables;
 use strumok_tests::kalyna::{bytes, decipher, encipher, round_keys, words};
-use strumok_tests::vectors::{published, read_bytes};
-
-/// Lines of key, plaintext and ciphertext, and comments behind #.
-const KALYNA: &str = include_str!("../../data/dstu7624-vectors.txt");
-
-/// Key, plaintext and ciphertext of each published vector of DSTU 7624.
-fn kalyna_vectors() -> Vec<[[u8; 32]; 3]> {
-    let read_line = |line: &str| {
-        let parts: Vec<[u8; 32]> = line
-            .split(' ')
-            .map(|hex| read_bytes(hex).try_into().expect("32 bytes"))
-            .collect();
-        parts.try_into().expect("key, plaintext and ciphertext")
-    };
-    let lines = KALYNA.lines().filter(|line| !line.starts_with('#'));
-    let vectors: Vec<_> = lines.map(read_line).collect();
-    assert_eq!(vectors.len(), 5, "five published vectors");
-    vectors
-}
+use strumok_tests::vectors::{published, published_blocks};
 
 /// For each entry of π0 .. π3, whether it was looked up.
 struct LookedUp([[bool; 256]; 4]);
@@ -50,7 +32,7 @@ fn run_kalyna(tables: &Tables, looked_up: &RefCell<LookedUp>) {
         looked_up.borrow_mut().note(w);
         tables.t(w)
     };
-    for (i, [key, plain, enciphered]) in kalyna_vectors().iter().enumerate() {
+    for (i, [key, plain, enciphered]) in published_blocks().iter().enumerate() {
         let keys = round_keys(&t, words(key));
         let ours = bytes(encipher(&t, &keys, words(plain)));
         assert_eq!(ours, *enciphered, "DSTU 7624, vector {}", i + 1);
@@ -82,7 +64,7 @@ fn run_strumok(tables: &Tables, looked_up: &RefCell<LookedUp>) {
 fn the_tables_give_the_published_vectors_of_dstu_7624() {
     let tables = Tables::new();
     let (t, t_inverse) = (|w| tables.t(w), |w| tables.t_inverse(w));
-    for (i, [key, plain, enciphered]) in kalyna_vectors().iter().enumerate() {
+    for (i, [key, plain, enciphered]) in published_blocks().iter().enumerate() {
         let keys = round_keys(&t, words(key));
         let ours = bytes(encipher(&t, &keys, words(plain)));
         assert_eq!(ours, *enciphered, "vector {}", i + 1);

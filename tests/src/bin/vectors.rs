@@ -1,4 +1,5 @@
-//! Prints the list of published vectors and of keys of zeros, worked by the other implementation.
+//! Prints the list of published vectors, of keys of zeros and of published blocks, worked by the
+//! other implementation.
 
 use strumok_tests::calls::Cipher;
 use strumok_tests::vectors::list;
