@@ -11,7 +11,7 @@ run:
 	@tools/build-rust --example demonstration
 	@target/cargo/release/examples/demonstration
 
-# The proved libraries beside the cipher and the reader in C of bench/: instructions and times, as tables, and the bars that are set for them.
+# The proved libraries beside the ciphers and the reader in C of bench/: instructions and times, as tables, and the bars that are set for them.
 bench:
 	@tools/bench
 

@@ -1,16 +1,17 @@
 /*
- * The benchmark of the cipher: the proved library and the cipher in C, on the same input. tools/bench calls it, and makes one table of what
- * it prints.
+ * The benchmark of the ciphers: the proved library and the ciphers in C, on the same input. tools/bench calls it, and makes one table of
+ * what it prints.
  *
- *   bench check PI VECTORS       tries the cipher in C by the published vectors and beside the proved library; status 1 where they differ
- *   bench time PI                runs each row of the table by both, in turn, for some seconds, and prints the best times
- *   bench count PI ROW CIPHER    runs one row by one of them, `proved` or `c`; the function to be counted is `measured`
+ *   bench check PI VECTORS BLOCKS  tries the ciphers in C by the published vectors and beside the proved library; status 1 where they differ
+ *   bench time PI                  runs each row of the table by both, in turn, for some seconds, and prints the best times
+ *   bench count PI ROW CIPHER      runs one row by one of them, `proved` or `c`; the function to be counted is `measured`
  *
- * PI and VECTORS are the files of the folder data.
+ * PI, VECTORS and BLOCKS are the files of the folder data; the last has the published vectors of the block cipher.
  */
 #define _POSIX_C_SOURCE 199309L
 
 #include "bench.h"
+#include "kalyna_in_c.h"
 #include "strumok.h"
 #include "strumok_in_c.h"
 
@@ -19,7 +20,7 @@
 #include <stdlib.h>
 #include <string.h>
 
-enum { WORDS = STRUMOK_STATE_WORDS, IV = 32, LONGEST = 64, LENGTH = 80, MIB = 1048576, ROW_SECONDS = 3 };
+enum { WORDS = STRUMOK_STATE_WORDS, IV = 32, LONGEST = 64, LENGTH = 80, BLOCK = 32, MIB = 1048576, ROW_SECONDS = 3 };
 
 struct cipher {
     uint64_t (*open)(const uint8_t *, size_t, const uint8_t *, size_t, uint64_t *);
@@ -27,6 +28,8 @@ struct cipher {
     uint64_t (*window)(uint64_t *, uint8_t *, size_t, size_t, size_t);
     uint64_t (*move)(uint64_t *, int64_t);
     uint64_t (*check)(const uint64_t *, const uint8_t *, size_t, uint8_t *, size_t);
+    uint64_t (*encipher)(const uint8_t *, size_t, const uint8_t *, size_t, uint8_t *, size_t);
+    uint64_t (*decipher)(const uint8_t *, size_t, const uint8_t *, size_t, uint8_t *, size_t);
 };
 
 /* The tables that the proved library is lent; they are filled once, at the start, as those of the cipher in C are. */
@@ -49,10 +52,13 @@ static uint64_t window_in_c(uint64_t *state, uint8_t *buffer, size_t buffer_len,
     return strumok_in_c_apply(state, buffer + start, count, buffer + start, count);
 }
 
-/* The proved library by held tables, and by tables that each call brings in anew; and the cipher in C. */
-static const struct cipher held = {strumok_open, apply_with, window_with, strumok_move, strumok_check};
-static const struct cipher anew = {strumok_open, strumok_apply, strumok_window, strumok_move, strumok_check};
-static const struct cipher in_c = {strumok_in_c_open, strumok_in_c_apply, window_in_c, strumok_in_c_move, strumok_in_c_check};
+/* The proved library by held tables, and by tables that each call brings in anew, as those of the block cipher always do; and in C. */
+static const struct cipher held = {strumok_open,  apply_with,             window_with,           strumok_move,
+                                   strumok_check, strumok_block_encipher, strumok_block_decipher};
+static const struct cipher anew = {strumok_open,  strumok_apply,          strumok_window,        strumok_move,
+                                   strumok_check, strumok_block_encipher, strumok_block_decipher};
+static const struct cipher in_c = {strumok_in_c_open,  strumok_in_c_apply,   window_in_c,         strumok_in_c_move,
+                                   strumok_in_c_check, kalyna_in_c_encipher, kalyna_in_c_decipher};
 
 static uint8_t key[LENGTH], iv[LENGTH], source[MIB], target[MIB], other_target[MIB];
 
@@ -70,7 +76,7 @@ static void expect(int ok, const char *what)
 {
     compared++;
     if (!ok) {
-        fprintf(stderr, "bench: the cipher in C: not so: %s\n", what);
+        fprintf(stderr, "bench: the ciphers in C: not so: %s\n", what);
         exit(1);
     }
 }
@@ -121,6 +127,31 @@ static void check_vectors(const char *name)
     }
     fclose(file);
     expect(sizes[0] == 4 && sizes[1] == 4, "there are four vectors of each size");
+}
+
+static void check_block_vectors(const char *name)
+{
+    char line[512], digits[3][2 * BLOCK + 1];
+    uint8_t vector[3][BLOCK], written[BLOCK];
+    unsigned vectors = 0;
+    FILE *file = fopen(name, "r");
+
+    if (file == NULL)
+        stop("the file of vectors of the block cipher cannot be read");
+    while (fgets(line, sizeof line, file) != NULL) {
+        if (line[0] == '#' || line[0] == '\n')
+            continue;
+        expect(sscanf(line, "%64[0-9a-f] %64[0-9a-f] %64[0-9a-f]", digits[0], digits[1], digits[2]) == 3, "a line of blocks");
+        for (unsigned i = 0; i < 3; i++)
+            expect(bytes_of(digits[i], vector[i], BLOCK), "a key or a block of a vector");
+        expect(in_c.encipher(vector[0], BLOCK, vector[1], BLOCK, written, BLOCK) == 0 && memcmp(written, vector[2], BLOCK) == 0,
+               "a vector is enciphered");
+        expect(in_c.decipher(vector[0], BLOCK, vector[2], BLOCK, written, BLOCK) == 0 && memcmp(written, vector[1], BLOCK) == 0,
+               "a vector is deciphered");
+        vectors++;
+    }
+    fclose(file);
+    expect(vectors == 5, "there are five vectors of the block cipher");
 }
 
 /* ---- The check: beside the proved library, call by call ---- */
@@ -338,9 +369,42 @@ static void compare_refusals(void)
     }
 }
 
-static int check(const char *vectors)
+/* Both ways with a key and a block, of these lengths, from some places in the source to some place in the target. */
+static void compare_blocks(size_t key_len, size_t source_len, size_t target_len)
+{
+    const uint8_t *k = source + random_below(MIB / 2), *block = source + random_below(MIB / 2);
+    const size_t to = random_below(64);
+
+    expect(strumok_block_encipher(k, key_len, block, source_len, target + to, target_len)
+               == in_c.encipher(k, key_len, block, source_len, other_target + to, target_len),
+           "the numbers of enciphering");
+    compare_targets(target_len);
+    expect(strumok_block_decipher(k, key_len, block, source_len, target + to, target_len)
+               == in_c.decipher(k, key_len, block, source_len, other_target + to, target_len),
+           "the numbers of deciphering");
+    compare_targets(target_len);
+}
+
+/* Blocks and keys that look random, then those of bytes 0 and FF, then lengths that are refused. */
+static void compare_block_cipher(void)
+{
+    for (unsigned i = 0; i < 20000; i++)
+        compare_blocks(BLOCK, BLOCK, BLOCK);
+    for (size_t length = 0; length < LENGTH; length++) {
+        compare_blocks(length, BLOCK, BLOCK);
+        compare_blocks(BLOCK, length, BLOCK);
+        compare_blocks(BLOCK, BLOCK, length);
+    }
+    for (unsigned byte = 0; byte < 256; byte += 255) {
+        memset(source, (int)byte, MIB);
+        compare_blocks(BLOCK, BLOCK, BLOCK);
+    }
+}
+
+static int check(const char *vectors, const char *blocks)
 {
     check_vectors(vectors);
+    check_block_vectors(blocks);
     random_bytes(source, MIB);
     random_bytes(target, MIB);
     memcpy(other_target, target, MIB);
@@ -357,19 +421,20 @@ static int check(const char *vectors)
     compare_zero_keys(32);
     compare_zero_keys(64);
     compare_alike_to_zeros();
-    printf("bench: the cipher in C has the published vectors and is the proved library's equal in %u comparisons\n", compared);
+    compare_block_cipher();
+    printf("bench: the ciphers in C have the published vectors and are the proved library's equals in %u comparisons\n", compared);
     return 0;
 }
 
 /* ---- The rows ---- */
 
-enum call { OPENING, IN_PLACE, PORTION, MOVE, CHECK };
+enum call { OPENING, IN_PLACE, PORTION, MOVE, CHECK, ENCIPHERING, DECIPHERING };
 
 static const struct row {
     const char *name, *label;
     const struct cipher *proved;
     enum call call;
-    int64_t length;     /* of the key, of a portion, of a move, or the position of a check */
+    int64_t length;     /* of the key, of a portion, of a move, of a block, or the position of a check */
     size_t timed_calls; /* in one sample */
     size_t counted_calls;
 } rows[] = {
@@ -388,6 +453,8 @@ static const struct row {
     {"back", "move of 1 MiB back", &held, MOVE, -MIB, 2, 1},
     {"forward-far", "move of 16 MiB forward", &held, MOVE, STRUMOK_LIMIT, 1, 1},
     {"check", "check at position 16,777,216", &held, CHECK, STRUMOK_LIMIT, 1, 1},
+    {"encipher", "enciphering a block with its key schedule (a call)", &anew, ENCIPHERING, BLOCK, 4000, 8},
+    {"decipher", "deciphering a block with its key schedule (a call)", &anew, DECIPHERING, BLOCK, 4000, 8},
 };
 
 enum { ROWS = sizeof rows / sizeof rows[0] };
@@ -421,6 +488,14 @@ uint64_t measured(const struct cipher *cipher, const struct row *row, size_t cal
     case CHECK:
         for (; calls > 0; calls--)
             numbers |= cipher->check(state, iv, IV, target, LONGEST);
+        break;
+    case ENCIPHERING:
+        for (; calls > 0; calls--, at = (at + length) % MIB)
+            numbers |= cipher->encipher(key, BLOCK, source + at, length, target + at, length);
+        break;
+    case DECIPHERING:
+        for (; calls > 0; calls--, at = (at + length) % MIB)
+            numbers |= cipher->decipher(key, BLOCK, source + at, length, target + at, length);
     }
     return numbers;
 }
@@ -467,7 +542,13 @@ static int print_times(void)
     return 0;
 }
 
-/* Runs a row to be counted, and prints by what its instructions are to be divided: the calls where it opens, and else the bytes. */
+/* The instructions of these rows are those of a call, and of the others those of a byte. */
+static int is_counted_by_calls(const struct row *row)
+{
+    return row->call == OPENING || row->call == ENCIPHERING || row->call == DECIPHERING;
+}
+
+/* Runs a row to be counted, and prints by what its instructions are to be divided: the calls or the bytes. */
 static int count(const char *row_name, const char *cipher_name)
 {
     const int c = strcmp(cipher_name, "c") == 0;
@@ -477,7 +558,7 @@ static int count(const char *row_name, const char *cipher_name)
     for (const struct row *row = rows; row < rows + ROWS; row++) {
         if (strcmp(row->name, row_name) == 0) {
             run(c ? &in_c : row->proved, row, row->counted_calls);
-            printf("%lld\n", (long long)row->counted_calls * (row->call == OPENING ? 1 : llabs(row->length)));
+            printf("%lld\n", (long long)row->counted_calls * (is_counted_by_calls(row) ? 1 : llabs(row->length)));
             return 0;
         }
     }
@@ -489,11 +570,11 @@ int main(int argc, char **argv)
 {
     const char *mode = argc > 2 ? argv[1] : "";
 
-    if (argc > 2 && strumok_in_c_fill_tables(argv[2]) != 0)
+    if (argc > 2 && (strumok_in_c_fill_tables(argv[2]) != 0 || kalyna_in_c_fill_tables(argv[2]) != 0))
         stop("the file of the pi tables cannot be read");
     strumok_tables(tables);
-    if (strcmp(mode, "check") == 0 && argc == 4)
-        return check(argv[3]);
+    if (strcmp(mode, "check") == 0 && argc == 5)
+        return check(argv[3], argv[4]);
     random_bytes(key, LONGEST);
     random_bytes(iv, IV);
     random_bytes(source, MIB);
@@ -501,6 +582,6 @@ int main(int argc, char **argv)
         return print_times();
     if (strcmp(mode, "count") == 0 && argc == 5)
         return count(argv[3], argv[4]);
-    fputs("usage: bench check PI VECTORS | bench time PI | bench count PI ROW proved|c\n", stderr);
+    fputs("usage: bench check PI VECTORS BLOCKS | bench time PI | bench count PI ROW proved|c\n", stderr);
     return 2;
 }

@@ -30,8 +30,8 @@
 //! - Equal halves show: two equal halves of a key give two equal enciphered halves, and equal keys
 //!   give, under one master key, equal wrapped keys.
 //! - Nothing is authenticated: a changed wrapped key deciphers to another key without any refusal,
-//!   and so does one whose halves were exchanged. With another master key some key is deciphered
-//!   too.
+//!   whether bytes of it were altered or its halves exchanged; and with another master key some key
+//!   is deciphered too.
 
 use crate::{answer, Refusal};
 

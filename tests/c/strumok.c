@@ -1,9 +1,10 @@
 /*
  * The calls of strumok.h from C: the published vectors, from the file that the first argument names; the words of a state where the header
  * says that they are; portions, windows and moves; portions and windows by held tables, which are those without; the check and the key
- * that it hands back; keys of zeros, their states, and a key that loads what a key of zeros loads; and each refusal, with the lowest number
- * where more than one applies, and with nothing altered. What is expected follows from the vectors, the rules of the steps and the worked
- * table of the scope paper.
+ * that it hands back; keys of zeros, their states, and a key that loads what a key of zeros loads; the published vectors of the block
+ * cipher, from the file that the second argument names, and keys wrapped by it; and each refusal, with the lowest number where more than
+ * one applies, and with nothing altered. What is expected follows from the vectors, the rules of the steps and the worked table of the
+ * scope paper.
  */
 #include "strumok.h"
 
@@ -18,7 +19,10 @@
 #define T_OF_0 UINT64_C(0x14E6CC3F14E6CC3F)
 #define ALPHA_INVERSE UINT64_C(0x47FCC6018A990000)
 
-enum { WORDS = 20, R1 = 16, R2 = 17, SIZE = 18, POSITION = 19, LENGTH = 80, LONGEST = 64, IV = 32, TABLES = 2560, LONG = 20000 };
+enum {
+    WORDS = 20, R1 = 16, R2 = 17, SIZE = 18, POSITION = 19, LENGTH = 80, LONGEST = 64, IV = 32, TABLES = 2560, LONG = 20000,
+    BLOCK = 32, LONGER = 65536 + BLOCK, GUARDS = 16
+};
 
 static void expect_number(uint64_t number, uint64_t want, const char *call)
 {
@@ -110,6 +114,8 @@ static void test_names(void)
     for (int i = 0; i <= 10; i++)
         expect(numbers[i] == i, "the names of the numbers stand in the order of the table");
     expect(STRUMOK_REFUSED_ZERO_KEY == 14, "the name of number 14");
+    expect(STRUMOK_REFUSED_BLOCK_LENGTH == 15, "the name of number 15");
+    expect(STRUMOK_BLOCK_BYTES == BLOCK, "the number of bytes of a block");
     expect(STRUMOK_STATE_WORDS == WORDS && STRUMOK_R1 == R1 && STRUMOK_R2 == R2 && STRUMOK_SIZE_MARK == SIZE
                && STRUMOK_POSITION == POSITION,
            "the names of the words");
@@ -442,7 +448,7 @@ static void test_window_numbers(void)
 /* Whatever stood there before, the same 2,560 words are written, and none before or behind them. They are the tables of later tests. */
 static void test_tables(void)
 {
-    enum { GUARDS = 8, ALL = TABLES + 2 * GUARDS };
+    enum { ALL = TABLES + 2 * GUARDS };
     static uint64_t words[2][ALL];
 
     memset(words[1], 0xFF, sizeof words[1]);
@@ -716,10 +722,136 @@ static void test_alike(void)
         test_check_number(0, s[0], iv[i], IV, key[i], LONGEST);
 }
 
+/* The two calls of the block cipher; each undoes the other. */
+enum direction { ENCIPHER, DECIPHER };
+static uint64_t (*const block_call[2])(const uint8_t *, size_t, const uint8_t *, size_t, uint8_t *, size_t) = {strumok_block_encipher,
+                                                                                                               strumok_block_decipher};
+
+/* One call with a key and a block: the target is what is wanted, and the bytes around it, the key and the source are kept. */
+static void test_block(enum direction direction, const uint8_t *key, const uint8_t *source, const uint8_t *want)
+{
+    uint8_t lent[2][BLOCK], buffer[GUARDS + BLOCK + GUARDS], held[GUARDS + BLOCK + GUARDS];
+
+    memcpy(lent[0], key, BLOCK);
+    memcpy(lent[1], source, BLOCK);
+    fill(buffer, sizeof buffer);
+    fill(held, sizeof held);
+    memcpy(held + GUARDS, want, BLOCK);
+    expect_number(block_call[direction](lent[0], BLOCK, lent[1], BLOCK, buffer + GUARDS, BLOCK), 0, "a block");
+    expect(memcmp(buffer, held, sizeof held) == 0, "the block that is wanted, and the bytes around it kept");
+    expect(memcmp(lent[0], key, BLOCK) == 0 && memcmp(lent[1], source, BLOCK) == 0, "key and source of a block are only read");
+}
+
+static void test_block_vectors(const char *name)
+{
+    char line[512], digits[3][2 * BLOCK + 1];
+    uint8_t key[BLOCK], plain[BLOCK], enciphered[BLOCK];
+    unsigned vectors = 0;
+    FILE *file = fopen(name, "r");
+
+    while (file != NULL && fgets(line, sizeof line, file) != NULL) {
+        if (line[0] == '#' || line[0] == '\n')
+            continue;
+        const int read = sscanf(line, "%64[0-9a-f] %64[0-9a-f] %64[0-9a-f]", digits[0], digits[1], digits[2]) == 3
+                         && bytes_of(digits[0], key, BLOCK) && bytes_of(digits[1], plain, BLOCK)
+                         && bytes_of(digits[2], enciphered, BLOCK);
+        expect(read, "a line of the file of blocks");
+        if (read) {
+            test_block(ENCIPHER, key, plain, enciphered);
+            test_block(DECIPHER, key, enciphered, plain);
+            vectors++;
+        }
+    }
+    expect(file != NULL && !ferror(file), "the file of blocks can be read");
+    expect(vectors == 5, "it has five vectors");
+    if (file != NULL)
+        fclose(file);
+}
+
+/* Blocks and keys of all bytes 0, of all bytes FF, and of many others: each call undoes the other. */
+static void test_blocks_there_and_back(void)
+{
+    uint8_t key[BLOCK], source[BLOCK], target[BLOCK];
+
+    for (unsigned i = 0; i < 512; i++) {
+        for (unsigned j = 0; j < BLOCK; j++) {
+            key[j] = (uint8_t)(i % 4 == 0 ? 0 : i % 4 == 1 ? 0xFF : 7 * i + 11 * j);
+            source[j] = (uint8_t)(i / 4 % 4 == 0 ? 0 : i / 4 % 4 == 1 ? 0xFF : 13 * i + 5 * j * j);
+        }
+        for (unsigned direction = 0; direction < 2; direction++) {
+            expect_number(block_call[direction](key, BLOCK, source, BLOCK, target, BLOCK), 0, "a block");
+            expect(memcmp(target, source, BLOCK) != 0, "a block is altered");
+            test_block(direction == ENCIPHER ? DECIPHER : ENCIPHER, key, target, source);
+        }
+    }
+}
+
+/* A call of the block cipher with these lengths: 15 where one is not 32, and then no byte is written. */
+static void test_block_lengths_of(enum direction direction, size_t key_len, size_t source_len, size_t target_len)
+{
+    static uint8_t key[LONGER], source[LONGER], target[GUARDS + LONGER + GUARDS], held[GUARDS + LONGER + GUARDS];
+    const uint64_t want = key_len == BLOCK && source_len == BLOCK && target_len == BLOCK ? 0 : 15;
+
+    fill(key, sizeof key);
+    fill(source, sizeof source);
+    fill(target, sizeof target);
+    fill(held, sizeof held);
+    expect_number(block_call[direction](key, key_len, source, source_len, target + GUARDS, target_len), want, "a block by lengths");
+    expect(memcmp(key, held, sizeof key) == 0 && memcmp(source, held, sizeof source) == 0, "key and source are only read");
+    if (want == 0)
+        memcpy(held + GUARDS, target + GUARDS, BLOCK);
+    expect(memcmp(target, held, sizeof held) == 0, "a refused block writes nothing, and an accepted one its 32 bytes alone");
+}
+
+/* Key, source and target of this length, one, two and all of them; the others have 32 bytes. */
+static void test_block_length(enum direction direction, size_t length)
+{
+    test_block_lengths_of(direction, length, BLOCK, BLOCK);
+    test_block_lengths_of(direction, BLOCK, length, BLOCK);
+    test_block_lengths_of(direction, BLOCK, BLOCK, length);
+    test_block_lengths_of(direction, length, length, BLOCK);
+    test_block_lengths_of(direction, length, BLOCK, length);
+    test_block_lengths_of(direction, BLOCK, length, length);
+    test_block_lengths_of(direction, length, length, length);
+}
+
+static void test_block_lengths(void)
+{
+    for (unsigned direction = 0; direction < 2; direction++) {
+        for (size_t length = 0; length <= LONGEST; length++)
+            test_block_length(direction, length);
+        test_block_length(direction, 256 + BLOCK);
+        test_block_length(direction, LONGER);
+    }
+}
+
+/* A key of 64 bytes wrapped in two calls and unwrapped in two: equal halves show, and a changed half is another key. */
+static void test_wrapped_keys(void)
+{
+    uint8_t master_key[BLOCK], key[2 * BLOCK], wrapped[2 * BLOCK], unwrapped[2 * BLOCK];
+
+    fill(master_key, BLOCK);
+    for (unsigned equal = 0; equal < 2; equal++) {
+        fill(key, sizeof key);
+        if (equal)
+            memcpy(key + BLOCK, key, BLOCK);
+        for (size_t half = 0; half < sizeof key; half += BLOCK)
+            expect_number(strumok_block_encipher(master_key, BLOCK, key + half, BLOCK, wrapped + half, BLOCK), 0, "a half wrapped");
+        for (size_t half = 0; half < sizeof key; half += BLOCK)
+            expect_number(strumok_block_decipher(master_key, BLOCK, wrapped + half, BLOCK, unwrapped + half, BLOCK), 0, "a half unwrapped");
+        expect(memcmp(unwrapped, key, sizeof key) == 0, "a key is unwrapped as it was");
+        expect((memcmp(wrapped, wrapped + BLOCK, BLOCK) == 0) == (equal == 1), "equal halves show, and others do not");
+
+        wrapped[40] ^= 1;
+        expect_number(strumok_block_decipher(master_key, BLOCK, wrapped + BLOCK, BLOCK, unwrapped + BLOCK, BLOCK), 0, "a changed half");
+        expect(memcmp(unwrapped + BLOCK, key + BLOCK, BLOCK) != 0, "a changed half is unwrapped to another key");
+    }
+}
+
 int main(int argc, char **argv)
 {
-    if (argc != 2) {
-        fputs("usage: strumok VECTORS\n", stderr);
+    if (argc != 3) {
+        fputs("usage: strumok VECTORS BLOCK_VECTORS\n", stderr);
         return 2;
     }
     test_names();
@@ -745,5 +877,9 @@ int main(int argc, char **argv)
     test_row_11(UINT64_C(0x8000000000000000));
     test_row_11(UINT64_C(0x0123456789ABCDEF));
     test_alike();
+    test_block_vectors(argv[2]);
+    test_blocks_there_and_back();
+    test_block_lengths();
+    test_wrapped_keys();
     return report("strumok");
 }
