@@ -2,7 +2,7 @@
  * The benchmark of the ciphers: the proved library and the ciphers in C, on the same input. tools/bench calls it, and makes one table of
  * what it prints.
  *
- *   bench check PI VECTORS BLOCKS  tries the ciphers in C by the published vectors and beside the proved library; status 1 where they differ
+ *   bench check PI VECTORS BLOCKS  tries the ciphers in C by the published vectors and beside the proved library; status 1 if they differ
  *   bench time PI                  runs each row of the table by both, in turn, for some seconds, and prints the best times
  *   bench count PI ROW CIPHER      runs one row by one of them, `proved` or `c`; the function to be counted is `measured`
  *
@@ -52,7 +52,7 @@ static uint64_t window_in_c(uint64_t *state, uint8_t *buffer, size_t buffer_len,
     return strumok_in_c_apply(state, buffer + start, count, buffer + start, count);
 }
 
-/* The proved library by held tables, and by tables that each call brings in anew, as those of the block cipher always do; and in C. */
+/* The proved library by held tables, and by tables that each call brings in anew, as every call of the block cipher does; and in C. */
 static const struct cipher held = {strumok_open,  apply_with,             window_with,           strumok_move,
                                    strumok_check, strumok_block_encipher, strumok_block_decipher};
 static const struct cipher anew = {strumok_open,  strumok_apply,          strumok_window,        strumok_move,
@@ -369,10 +369,10 @@ static void compare_refusals(void)
     }
 }
 
-/* Both ways with a key and a block, of these lengths, from some places in the source to some place in the target. */
+/* Both ways, with a key and a block of these lengths from some places in the halves of the source, to some place in the target. */
 static void compare_blocks(size_t key_len, size_t source_len, size_t target_len)
 {
-    const uint8_t *k = source + random_below(MIB / 2), *block = source + random_below(MIB / 2);
+    const uint8_t *k = source + random_below(MIB / 2 - LENGTH), *block = source + MIB / 2 + random_below(MIB / 2 - LENGTH);
     const size_t to = random_below(64);
 
     expect(strumok_block_encipher(k, key_len, block, source_len, target + to, target_len)

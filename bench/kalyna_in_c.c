@@ -97,7 +97,7 @@ INLINE void unmix(union block *y, union block *x)
 
 /*
  * The shift back and pi inverse, then xor of the key, then M inverse: word c has its bytes from the words c, c + 1, c + 2 and c + 3. M
- * inverse of a xor is the xor of M inverse of both, so the key is multiplied by itself.
+ * inverse of a xor is the xor of M inverse of both, so what is looked up has M inverse in it, and M inverse of the key is made apart.
  */
 INLINE void round_back(union block *y, union block *x, union block *key)
 {

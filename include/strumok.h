@@ -174,8 +174,8 @@ uint64_t strumok_block_encipher(const uint8_t *key, size_t key_len, const uint8_
                                 size_t target_len);
 
 /*
- * Deciphers the block of 32 bytes in the source, with a key of 32, to a target of 32. It undoes strumok_block_encipher with the same key, and
- * strumok_block_encipher undoes it.
+ * Deciphers the block of 32 bytes in the source, with a key of 32, to a target of 32. It undoes strumok_block_encipher with the same key,
+ * and strumok_block_encipher undoes it.
  *
  * Refusals, with the target as it was: 15. It is the only test.
  */

@@ -12,7 +12,7 @@ use strumok_tests::cipher::Registers;
 use strumok_tests::random::{seed, Random};
 use strumok_tests::vectors::{hex, iv_of_k4, key_of_k4};
 
-/// The numbers that the calls answer.
+/// The numbers that these calls answer.
 const NUMBERS: [usize; 12] = [0, 1, 2, 3, 4, 5, 6, 7, 8, 9, 10, 14];
 
 /// A call, without the state and the buffers that it is lent.
