@@ -1,7 +1,6 @@
 // Runs DSTU 8845's published vectors, then keys of zeros and pairs of key and IV that load the same cells as these, then DSTU 7624's published
 // vectors and lengths that its block cipher refuses, and prints a line for each. The file `stdout` beside it is what another implementation
 // printed for the same list.
-mod blocks;
 mod tables;
 
 use generator::State;
@@ -107,8 +106,8 @@ fn main() {
     zero_key(512, &[0; 64]);
     alike_in_lowest_bytes(1);
     alike_in_highest_bytes(128);
-    blocks::examples();
-    blocks::chained_blocks();
-    blocks::encipher_lengths();
-    blocks::decipher_lengths();
+    block_trials::examples();
+    block_trials::chained_blocks();
+    block_trials::encipher_lengths();
+    block_trials::decipher_lengths();
 }

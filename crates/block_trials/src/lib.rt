@@ -1,6 +1,7 @@
-// The block cipher: DSTU 7624's published vectors enciphered and deciphered, then keys, sources and targets of 31 and of 33 bytes, and a line
-// for each.
-use crate::tables;
+// Lines of the program `vectors` on the block cipher: DSTU 7624's published vectors enciphered and deciphered, then keys, sources and targets of 31
+// and of 33 bytes.
+mod tables;
+
 use kalyna::decipher;
 use kalyna::encipher;
 use printing::end_with;
