@@ -25,6 +25,12 @@ rounds-inverse R R′ i k w (suc n) = inverse-after (rounds-inverse R R′ i k w
 
 -- ---- the cipher
 
+fourteen-rounds : (R : List ℕ → List ℕ) (k : ℕ → List ℕ) (s : List ℕ) →
+    encipherWith R k s
+    ≡ added (k 14) (R (xored (k 13) (R (xored (k 12) (R (xored (k 11) (R (xored (k 10) (R (xored (k 9) (R (xored (k 8) (R (xored (k 7) (R (xored (k 6) (R (xored (k 5) (R (xored (k 4) (R (xored (k 3) (R (xored (k 2) (R (xored (k 1) (R (added (k 0) s))))))))))))))))))))))))))))
+unfolding rounds encipherWith
+fourteen-rounds R k s = refl
+
 on-words : (key : List ℕ) → Inverse FourWords (enciphered key) (deciphered key)
 unfolding encipherWith decipherWith
 on-words key =
@@ -36,7 +42,7 @@ on-bytes : (key : List ℕ) → Inverse Bytes32 (encipheredBytes key) (deciphere
 on-bytes key = inverse-between blockOf bytesOf (λ xs b. block-words xs (b .byte-lt)) (λ s w. bytes-bytes s) bytes-block block-bytes (on-words (blockOf key))
 
 pub kalyna-laws : KalynaLaws
-unfolding added xored rounds encipherWith
+unfolding added xored
 kalyna-laws =
     record {
       on-bytes = on-bytes;
@@ -60,5 +66,5 @@ kalyna-laws =
       round-by-T = round-by-T;
       odd-key = odd-key;
       even-key = even-key;
-      fourteen-rounds = λ R k s. refl;
+      fourteen-rounds = fourteen-rounds;
     }
