@@ -27,7 +27,7 @@ at table c = getD table c 0
 abbrev pub sum : ℕ → ℕ → ℕ
 sum a b = (a + b) % 2 ^ 64
 
--- the word to which b is added to give a
+-- of words a and b: the word to which b is added to give a
 abbrev pub difference : ℕ → ℕ → ℕ
 difference a b = (a + (2 ^ 64 - b)) % 2 ^ 64
 

@@ -65,11 +65,11 @@ odd-key key i j h =
     ∙ tabulate-at 0 32 (λ j. at (bytesOf k) (rotatedFrom j)) j h
 
 pub even-key : (key : List ℕ) (i : ℕ) →
-    let t : List ℕ = added (tabulate 4 (λ c. 0x0001000100010001 * 2 ^ i)) (intermediateKeyWith round key) in
+    let t : List ℕ = added (tabulate 4 (λ j. 0x0001000100010001 * 2 ^ i)) (intermediateKeyWith round key) in
     roundKey key (2 * i) ≡ added t (round (xored t (round (added t (at key (i % 4) ∷ at key ((1 + i) % 4) ∷ at key ((2 + i) % 4) ∷ at key ((3 + i) % 4) ∷ [])))))
 unfolding evenKeyWith
 even-key key i =
-    let t : List ℕ = added (tabulate 4 (λ c. 0x0001000100010001 * 2 ^ i)) (intermediateKeyWith round key) in
+    let t : List ℕ = added (tabulate 4 (λ j. 0x0001000100010001 * 2 ^ i)) (intermediateKeyWith round key) in
     even-is key i ∙ ap (λ (x : ℕ). keyFrom round (at key (x % 4) ∷ at key ((1 + i) % 4) ∷ at key ((2 + i) % 4) ∷ at key ((3 + i) % 4) ∷ []) t) none
   where
     none : 0 + i ≡ i

@@ -1,4 +1,5 @@
--- DSTU 7624:2014, blocks and words of 256 bits. What is quoted here and in the files beside this one is from data/dstu7624-256.md.
+-- DSTU 7624:2014, blocks and words of 256 bits. What is quoted here and in the files beside this one is from
+-- data/dstu7624-256.md, where no other paper is named.
 use mathlib.Core.Path.{_≡_}
 use mathlib.Core.List.{List}
 use Prim.Native.Nat.{ℕ, _+_, _*_, _/_, _%_, _^_, _<_}

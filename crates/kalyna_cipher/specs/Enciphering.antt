@@ -4,12 +4,12 @@ use mathlib.Core.List.{List}
 use Prim.Native.Nat.{ℕ, zero, suc}
 use Rattle.kalyna_cipher.specs.Rounds.{added, subtracted, xored}
 
--- "for i = 1 .. n: R, then xor k_i"
+-- "for i = 1 .. 13: R, then xor k_i", with n for 13
 unfoldable pub rounds : (R : List ℕ → List ℕ) (k : ℕ → List ℕ) (n : ℕ) → List ℕ → List ℕ
 rounds R k zero s = s
 rounds R k (suc n) s = xored (k (suc n)) (R (rounds R k n s))
 
--- "for i = n .. 1: xor k_i, R inverse"
+-- "for i = 13 .. 1: xor k_i, R inverse", with n for 13
 unfoldable pub roundsBack : (R : List ℕ → List ℕ) (k : ℕ → List ℕ) (n : ℕ) → List ℕ → List ℕ
 roundsBack R k zero s = s
 roundsBack R k (suc n) s = roundsBack R k n (R (xored (k (suc n)) s))

@@ -15,7 +15,7 @@ use Rattle.kalyna_cipher.specs.Kalyna.{roundKey, enciphered, deciphered,
 use Rattle.kalyna_cipher.specs.Inverses.{Inverse}
 
 pub record KalynaLaws : Type 0 where
-  -- ---- what undoes what: "Deciphering undoes enciphering and the reverse, under every key."
+  -- ---- what undoes what; document 02, item 5: "Deciphering undoes enciphering and the reverse, under every key."
   pub on-bytes : (key : List ℕ) → Inverse Bytes32 (encipheredBytes key) (decipheredBytes key)
   pub on-words : (key : List ℕ) → Inverse FourWords (enciphered key) (deciphered key)
   -- so both are one-to-one
@@ -31,6 +31,8 @@ pub record KalynaLaws : Type 0 where
   pub shift-inverse : Inverse FourWords shift shiftBack
   pub mix-inverse : Inverse FourWords (mixed matrixRow) (mixed matrixInverseRow)
   -- the words of a block and its bytes
+  pub block-words : (xs : List ℕ) → Bytes32 xs → FourWords (blockOf xs)
+  pub bytes-bytes : (s : List ℕ) → Bytes32 (bytesOf s)
   pub bytes-block : (xs : List ℕ) → Bytes32 xs → bytesOf (blockOf xs) ≡ xs
   pub block-bytes : (s : List ℕ) → FourWords s → blockOf (bytesOf s) ≡ s
   -- round keys are four words, whatever the key
@@ -45,11 +47,13 @@ pub record KalynaLaws : Type 0 where
   pub shift-goes : (s : List ℕ) (c j : ℕ) → c < 4 → j < 8 → byte (at (shift s) ((c + j / 2) % 4)) j ≡ byte (at s c) j
   -- "as in T": each word of a round is T of a word of the shifted block
   pub round-by-T : (s : List ℕ) (c : ℕ) → c < 4 → at (round s) c ≡ substitute (at (shift s) c)
+  -- "begin with the words 9, 0, 0, 0 (9 = (256 + 256 + 64) / 64); add K; R; xor K; R; add K; R"
+  pub intermediate-key : (R : List ℕ → List ℕ) (key : List ℕ) → intermediateKeyWith R key ≡ R (added key (R (xored key (R (added key (9 ∷ 0 ∷ 0 ∷ 0 ∷ []))))))
   -- "byte j of k_(2i+1) is byte (j + 11) mod 32 of k_(2i)"
   pub odd-key : (key : List ℕ) (i j : ℕ) → j < 32 → at (bytesOf (roundKey key (2 * i + 1))) j ≡ at (bytesOf (roundKey key (2 * i))) ((j + 11) % 32)
   -- "k_(2i) is: d + t; R; xor t; R; + t", with t and d as they are there, in words
   pub even-key : (key : List ℕ) (i : ℕ) →
-      let t : List ℕ = added (tabulate 4 (λ c. 0x0001000100010001 * 2 ^ i)) (intermediateKeyWith round key) in
+      let t : List ℕ = added (tabulate 4 (λ j. 0x0001000100010001 * 2 ^ i)) (intermediateKeyWith round key) in
       roundKey key (2 * i) ≡ added t (round (xored t (round (added t (at key (i % 4) ∷ at key ((1 + i) % 4) ∷ at key ((2 + i) % 4) ∷ at key ((3 + i) % 4) ∷ [])))))
   -- "14 rounds"
   pub fourteen-rounds : (R : List ℕ → List ℕ) (k : ℕ → List ℕ) (s : List ℕ) →

@@ -5,13 +5,13 @@ use Rattle.galois.specs.Words.{tabulate, at}
 use Rattle.kalyna_cipher.specs.Blocks.{blockOf, bytesOf}
 use Rattle.kalyna_cipher.specs.Rounds.{added, xored}
 
--- "begin with the words 9, 0, 0, 0 (9 = (256 + 256 + 64) / 64); add K; R; xor K; R; add K; R"
+-- the intermediate key Kt: "begin with the words 9, 0, 0, 0 (9 = (256 + 256 + 64) / 64); add K; R; xor K; R; add K; R"
 unfoldable pub intermediateKeyWith : (R : List ℕ → List ℕ) (key : List ℕ) → List ℕ
 intermediateKeyWith R key = R (added key (R (xored key (R (added key (9 ∷ 0 ∷ 0 ∷ 0 ∷ []))))))
 
 -- "the word 0001000100010001 (hexadecimal) shifted left by i bits", four times
 abbrev pub constants : (i : ℕ) → List ℕ
-constants i = tabulate 4 (λ c. 0x0001000100010001 * 2 ^ i)
+constants i = tabulate 4 (λ j. 0x0001000100010001 * 2 ^ i)
 
 -- "K with its words rotated by i places: d_j = K_((j + i) mod 4)"
 abbrev pub rotatedWords : (i : ℕ) → List ℕ → List ℕ
@@ -32,7 +32,7 @@ rotatedFrom j = (j + 11) % 32
 unfoldable pub rotatedBytes : List ℕ → List ℕ
 rotatedBytes s = blockOf (tabulate 32 (λ j. at (bytesOf s) (rotatedFrom j)))
 
--- k_(2i) itself where 0 is left of n by 2, or k_(2i + 1) from it
+-- of k_(2i): itself for an even n, which leaves 0 by 2, and k_(2i + 1) for an odd one
 abbrev pub evenOrOdd : (rest : ℕ) → List ℕ → List ℕ
 evenOrOdd zero k = k
 evenOrOdd (suc rest) k = rotatedBytes k

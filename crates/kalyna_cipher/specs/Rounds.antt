@@ -24,12 +24,12 @@ xored k = each (λ c w. bitXor w (at k c))
 unfoldable pub substituted : (tables : List (List ℕ)) → List ℕ → List ℕ
 substituted tables = each (λ c. through tables)
 
--- the word that byte j of word c comes from where it is k · floor(j / 2) words on, counted modulo 4
-abbrev pub comesFrom : (k c j : ℕ) → ℕ
-comesFrom k c j = (c + k * (j / 2)) % 4
+-- the word that byte j of word c comes from where that is m · floor(j / 2) words on, counted modulo 4
+abbrev pub comesFrom : (m c j : ℕ) → ℕ
+comesFrom m c j = (c + m * (j / 2)) % 4
 
-unfoldable pub shifted : (k : ℕ) → List ℕ → List ℕ
-shifted k s = tabulate 4 (λ c. word 8 (λ j. byte (at s (comesFrom k c j)) j))
+unfoldable pub shifted : (m : ℕ) → List ℕ → List ℕ
+shifted m s = tabulate 4 (λ c. word 8 (λ j. byte (at s (comesFrom m c j)) j))
 
 -- "byte j of word c goes to byte j of word (c + floor(j / 2)) mod 4": it comes from word c - floor(j / 2), which is c + 3 · floor(j / 2)
 abbrev pub shift : List ℕ → List ℕ

@@ -1,2 +1,2 @@
--- The definitions that the contracts of words cite.
+-- Definitions of words in memory, which contracts here and above cite.
 pub mod Memory
