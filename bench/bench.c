@@ -6,6 +6,8 @@
  *   bench time PI                  runs each row of the table by both, in turn, for some seconds, and prints the best times
  *   bench count PI ROW CIPHER      runs one row by one of them, `proved` or `c`; the function to be counted is `measured`
  *
+ * The cipher in C of a row is the one that the row names: of the block cipher there are two.
+ *
  * PI, VECTORS and BLOCKS are the files of the folder data; the last has the published vectors of the block cipher.
  */
 #define _POSIX_C_SOURCE 199309L
@@ -52,13 +54,18 @@ static uint64_t window_in_c(uint64_t *state, uint8_t *buffer, size_t buffer_len,
     return strumok_in_c_apply(state, buffer + start, count, buffer + start, count);
 }
 
-/* The proved library by held tables, and by tables that each call brings in anew, as every call of the block cipher does; and in C. */
+/*
+ * The proved library by held tables, and by tables that each call brings in anew, as every call of the block cipher does; in C, with the
+ * block cipher by the tables of the proved library; and in C with the one that is tuned by hand.
+ */
 static const struct cipher held = {strumok_open,  apply_with,             window_with,           strumok_move,
                                    strumok_check, strumok_block_encipher, strumok_block_decipher};
 static const struct cipher anew = {strumok_open,  strumok_apply,          strumok_window,        strumok_move,
                                    strumok_check, strumok_block_encipher, strumok_block_decipher};
 static const struct cipher in_c = {strumok_in_c_open,  strumok_in_c_apply,   window_in_c,         strumok_in_c_move,
                                    strumok_in_c_check, kalyna_in_c_encipher, kalyna_in_c_decipher};
+static const struct cipher tuned = {strumok_in_c_open,  strumok_in_c_apply,         window_in_c,               strumok_in_c_move,
+                                    strumok_in_c_check, kalyna_tuned_in_c_encipher, kalyna_tuned_in_c_decipher};
 
 static uint8_t key[LENGTH], iv[LENGTH], source[MIB], target[MIB], other_target[MIB];
 
@@ -129,7 +136,7 @@ static void check_vectors(const char *name)
     expect(sizes[0] == 4 && sizes[1] == 4, "there are four vectors of each size");
 }
 
-static void check_block_vectors(const char *name)
+static void check_block_vectors(const struct cipher *c, const char *name)
 {
     char line[512], digits[3][2 * BLOCK + 1];
     uint8_t vector[3][BLOCK], written[BLOCK];
@@ -144,9 +151,9 @@ static void check_block_vectors(const char *name)
         expect(sscanf(line, "%64[0-9a-f] %64[0-9a-f] %64[0-9a-f]", digits[0], digits[1], digits[2]) == 3, "a line of blocks");
         for (unsigned i = 0; i < 3; i++)
             expect(bytes_of(digits[i], vector[i], BLOCK), "a key or a block of a vector");
-        expect(in_c.encipher(vector[0], BLOCK, vector[1], BLOCK, written, BLOCK) == 0 && memcmp(written, vector[2], BLOCK) == 0,
+        expect(c->encipher(vector[0], BLOCK, vector[1], BLOCK, written, BLOCK) == 0 && memcmp(written, vector[2], BLOCK) == 0,
                "a vector is enciphered");
-        expect(in_c.decipher(vector[0], BLOCK, vector[2], BLOCK, written, BLOCK) == 0 && memcmp(written, vector[1], BLOCK) == 0,
+        expect(c->decipher(vector[0], BLOCK, vector[2], BLOCK, written, BLOCK) == 0 && memcmp(written, vector[1], BLOCK) == 0,
                "a vector is deciphered");
         vectors++;
     }
@@ -370,41 +377,43 @@ static void compare_refusals(void)
 }
 
 /* Both ways, with a key and a block of these lengths from some places in the halves of the source, to some place in the target. */
-static void compare_blocks(size_t key_len, size_t source_len, size_t target_len)
+static void compare_blocks(const struct cipher *c, size_t key_len, size_t source_len, size_t target_len)
 {
     const uint8_t *k = source + random_below(MIB / 2 - LENGTH), *block = source + MIB / 2 + random_below(MIB / 2 - LENGTH);
     const size_t to = random_below(64);
 
     expect(strumok_block_encipher(k, key_len, block, source_len, target + to, target_len)
-               == in_c.encipher(k, key_len, block, source_len, other_target + to, target_len),
+               == c->encipher(k, key_len, block, source_len, other_target + to, target_len),
            "the numbers of enciphering");
     compare_targets(target_len);
     expect(strumok_block_decipher(k, key_len, block, source_len, target + to, target_len)
-               == in_c.decipher(k, key_len, block, source_len, other_target + to, target_len),
+               == c->decipher(k, key_len, block, source_len, other_target + to, target_len),
            "the numbers of deciphering");
     compare_targets(target_len);
 }
 
-/* Blocks and keys that look random, then those of bytes 0 and FF, then lengths that are refused. */
-static void compare_block_cipher(void)
+/* Blocks and keys that look random, then lengths that are refused, then blocks and keys of bytes 0 and FF. */
+static void compare_block_cipher(const struct cipher *c)
 {
+    random_bytes(source, MIB);
     for (unsigned i = 0; i < 20000; i++)
-        compare_blocks(BLOCK, BLOCK, BLOCK);
+        compare_blocks(c, BLOCK, BLOCK, BLOCK);
     for (size_t length = 0; length < LENGTH; length++) {
-        compare_blocks(length, BLOCK, BLOCK);
-        compare_blocks(BLOCK, length, BLOCK);
-        compare_blocks(BLOCK, BLOCK, length);
+        compare_blocks(c, length, BLOCK, BLOCK);
+        compare_blocks(c, BLOCK, length, BLOCK);
+        compare_blocks(c, BLOCK, BLOCK, length);
     }
     for (unsigned byte = 0; byte < 256; byte += 255) {
         memset(source, (int)byte, MIB);
-        compare_blocks(BLOCK, BLOCK, BLOCK);
+        compare_blocks(c, BLOCK, BLOCK, BLOCK);
     }
 }
 
 static int check(const char *vectors, const char *blocks)
 {
     check_vectors(vectors);
-    check_block_vectors(blocks);
+    check_block_vectors(&in_c, blocks);
+    check_block_vectors(&tuned, blocks);
     random_bytes(source, MIB);
     random_bytes(target, MIB);
     memcpy(other_target, target, MIB);
@@ -421,7 +430,8 @@ static int check(const char *vectors, const char *blocks)
     compare_zero_keys(32);
     compare_zero_keys(64);
     compare_alike_to_zeros();
-    compare_block_cipher();
+    compare_block_cipher(&in_c);
+    compare_block_cipher(&tuned);
     printf("bench: the ciphers in C have the published vectors and are the proved library's equals in %u comparisons\n", compared);
     return 0;
 }
@@ -432,29 +442,31 @@ enum call { OPENING, IN_PLACE, PORTION, MOVE, CHECK, ENCIPHERING, DECIPHERING };
 
 static const struct row {
     const char *name, *label;
-    const struct cipher *proved;
+    const struct cipher *proved, *beside; /* the second is the one in C that the row is compared with */
     enum call call;
     int64_t length;     /* of the key, of a portion, of a move, of a block, or the position of a check */
     size_t timed_calls; /* in one sample */
     size_t counted_calls;
 } rows[] = {
-    {"open-256", "opening, key of 256 bits (a call)", &held, OPENING, 32, 4000, 8},
-    {"open-512", "opening, key of 512 bits (a call)", &held, OPENING, 64, 4000, 8},
-    {"16", "portions of 16 bytes in place", &held, IN_PLACE, 16, 65536, 4096},
-    {"64", "portions of 64 bytes in place", &held, IN_PLACE, 64, 32768, 1024},
-    {"256", "portions of 256 bytes in place", &held, IN_PLACE, 256, 8192, 256},
-    {"1024", "portions of 1,024 bytes in place", &held, IN_PLACE, 1024, 2048, 64},
-    {"4096", "portions of 4,096 bytes in place", &held, IN_PLACE, 4096, 512, 16},
-    {"1048576", "portions of 1 MiB in place", &held, IN_PLACE, MIB, 2, 1},
-    {"1048576-across", "portions of 1 MiB from a source to a target", &held, PORTION, MIB, 2, 1},
-    {"64-anew", "portions of 64 bytes in place, tables brought in at each call", &anew, IN_PLACE, 64, 8192, 1024},
-    {"1024-anew", "portions of 1,024 bytes in place, tables brought in at each call", &anew, IN_PLACE, 1024, 2048, 64},
-    {"forward", "move of 1 MiB forward", &held, MOVE, MIB, 2, 1},
-    {"back", "move of 1 MiB back", &held, MOVE, -MIB, 2, 1},
-    {"forward-far", "move of 16 MiB forward", &held, MOVE, STRUMOK_LIMIT, 1, 1},
-    {"check", "check at position 16,777,216", &held, CHECK, STRUMOK_LIMIT, 1, 1},
-    {"encipher", "enciphering a block with its key schedule (a call)", &anew, ENCIPHERING, BLOCK, 4000, 8},
-    {"decipher", "deciphering a block with its key schedule (a call)", &anew, DECIPHERING, BLOCK, 4000, 8},
+    {"open-256", "opening, key of 256 bits (a call)", &held, &in_c, OPENING, 32, 4000, 8},
+    {"open-512", "opening, key of 512 bits (a call)", &held, &in_c, OPENING, 64, 4000, 8},
+    {"16", "portions of 16 bytes in place", &held, &in_c, IN_PLACE, 16, 65536, 4096},
+    {"64", "portions of 64 bytes in place", &held, &in_c, IN_PLACE, 64, 32768, 1024},
+    {"256", "portions of 256 bytes in place", &held, &in_c, IN_PLACE, 256, 8192, 256},
+    {"1024", "portions of 1,024 bytes in place", &held, &in_c, IN_PLACE, 1024, 2048, 64},
+    {"4096", "portions of 4,096 bytes in place", &held, &in_c, IN_PLACE, 4096, 512, 16},
+    {"1048576", "portions of 1 MiB in place", &held, &in_c, IN_PLACE, MIB, 2, 1},
+    {"1048576-across", "portions of 1 MiB from a source to a target", &held, &in_c, PORTION, MIB, 2, 1},
+    {"64-anew", "portions of 64 bytes in place, tables brought in at each call", &anew, &in_c, IN_PLACE, 64, 8192, 1024},
+    {"1024-anew", "portions of 1,024 bytes in place, tables brought in at each call", &anew, &in_c, IN_PLACE, 1024, 2048, 64},
+    {"forward", "move of 1 MiB forward", &held, &in_c, MOVE, MIB, 2, 1},
+    {"back", "move of 1 MiB back", &held, &in_c, MOVE, -MIB, 2, 1},
+    {"forward-far", "move of 16 MiB forward", &held, &in_c, MOVE, STRUMOK_LIMIT, 1, 1},
+    {"check", "check at position 16,777,216", &held, &in_c, CHECK, STRUMOK_LIMIT, 1, 1},
+    {"encipher", "enciphering a block with its key schedule (a call)", &anew, &in_c, ENCIPHERING, BLOCK, 4000, 8},
+    {"decipher", "deciphering a block with its key schedule (a call)", &anew, &in_c, DECIPHERING, BLOCK, 4000, 8},
+    {"encipher-tuned", "enciphering a block, beside C tuned by hand (a call)", &anew, &tuned, ENCIPHERING, BLOCK, 4000, 8},
+    {"decipher-tuned", "deciphering a block, beside C tuned by hand (a call)", &anew, &tuned, DECIPHERING, BLOCK, 4000, 8},
 };
 
 enum { ROWS = sizeof rows / sizeof rows[0] };
@@ -530,7 +542,7 @@ static int print_times(void)
         double best[2] = {1e9, 1e9}, spent = 0;
         while (spent < ROW_SECONDS) {
             for (unsigned which = 0; which < 2; which++) {
-                const double seconds = run(which == 0 ? row->proved : &in_c, row, row->timed_calls);
+                const double seconds = run(which == 0 ? row->proved : row->beside, row, row->timed_calls);
                 if (seconds < best[which])
                     best[which] = seconds;
                 spent += seconds;
@@ -557,7 +569,7 @@ static int count(const char *row_name, const char *cipher_name)
         stop("there is no cipher of that name");
     for (const struct row *row = rows; row < rows + ROWS; row++) {
         if (strcmp(row->name, row_name) == 0) {
-            run(c ? &in_c : row->proved, row, row->counted_calls);
+            run(c ? row->beside : row->proved, row, row->counted_calls);
             printf("%lld\n", (long long)row->counted_calls * (is_counted_by_calls(row) ? 1 : llabs(row->length)));
             return 0;
         }
@@ -570,7 +582,8 @@ int main(int argc, char **argv)
 {
     const char *mode = argc > 2 ? argv[1] : "";
 
-    if (argc > 2 && (strumok_in_c_fill_tables(argv[2]) != 0 || kalyna_in_c_fill_tables(argv[2]) != 0))
+    if (argc > 2 && (strumok_in_c_fill_tables(argv[2]) != 0 || kalyna_in_c_fill_tables(argv[2]) != 0
+                     || kalyna_tuned_in_c_fill_tables(argv[2]) != 0))
         stop("the file of the pi tables cannot be read");
     strumok_tables(tables);
     if (strcmp(mode, "check") == 0 && argc == 5)

@@ -1,8 +1,8 @@
 /*
- * The block cipher in C, written for speed by hand: all rounds stand one behind the other, and each is looked up in eight tables, which are
- * filled at the start; the shift is only which byte is taken where. The bytes of a block are read from memory, which takes fewer
- * instructions and less time than to shift them out of its words. Deciphering has tables of its own, of M inverse times what pi inverse
- * gives: pi inverse of one round and M inverse of the next are then looked up together. For little-endian machines.
+ * The block cipher in C by the tables of the proved library, in the plain way: a round is looked up in the tables of T, and back in those
+ * of M inverse and, byte by byte, of pi inverse; bytes are shifted out of words. Of T and of M inverse there are eight tables; the proved
+ * library has the first four of each, and exchanges halves of entries for the others, which would take gcc more instructions. The tables
+ * are filled at the start, and all rounds stand one behind the other. For little-endian machines.
  */
 #include "kalyna_in_c.h"
 
@@ -10,22 +10,17 @@
 
 #include <string.h>
 
-/* Moved two at a time, in vectors, words would take gcc more instructions. */
-#pragma GCC optimize("no-tree-slp-vectorize")
-
 enum { BYTES = 32, WORDS = 4, KEYS = 15 };
 
 static struct {
     uint64_t t[8][256];         /* entry b of table j: column j of M times pi(j mod 4) of b */
     uint64_t m_inverse[8][256]; /* entry b of table j: column j of the inverse times b */
-    uint64_t back[8][256];      /* entry b of table j: column j of the inverse times pi inverse (j mod 4) of b */
     uint8_t pi_inverse[4][256];
 } tables;
 
-/* A block, a key or a round key: its words, of which word 0 has the first eight bytes, least significant first; and its bytes. */
-union block {
+/* A block, a key or a round key: word 0 has the first eight bytes, least significant first. */
+struct block {
     uint64_t word[WORDS];
-    uint8_t byte[BYTES];
 };
 
 int kalyna_in_c_fill_tables(const char *pi_file)
@@ -36,10 +31,9 @@ int kalyna_in_c_fill_tables(const char *pi_file)
         return 1;
     for (unsigned j = 0; j < 8; j++) {
         for (unsigned b = 0; b < 256; b++) {
-            const uint8_t substituted = pi[j % 4][b];
-            tables.pi_inverse[j % 4][substituted] = (uint8_t)b;
-            tables.t[j][b] = row_times(column(ROW_OF_M, j), substituted);
-            tables.m_inverse[j][b] = tables.back[j][substituted] = row_times(column(ROW_OF_M_INVERSE, j), (uint8_t)b);
+            tables.pi_inverse[j % 4][pi[j % 4][b]] = (uint8_t)b;
+            tables.t[j][b] = row_times(column(ROW_OF_M, j), pi[j % 4][b]);
+            tables.m_inverse[j][b] = row_times(column(ROW_OF_M_INVERSE, j), (uint8_t)b);
         }
     }
     return 0;
@@ -48,174 +42,149 @@ int kalyna_in_c_fill_tables(const char *pi_file)
 /* For small functions, which are to stand where they are called. */
 #define INLINE static inline __attribute__((always_inline))
 
-/* The block stands in memory from here on, where its bytes are read. */
-INLINE void to_memory(union block *x)
+/* ---- Round keys, word by word ---- */
+
+INLINE struct block add(struct block x, struct block y)
 {
-    __asm__("" : "+m"(x->word[0]), "+m"(x->word[1]), "+m"(x->word[2]), "+m"(x->word[3]));
+    return (struct block){{x.word[0] + y.word[0], x.word[1] + y.word[1], x.word[2] + y.word[2], x.word[3] + y.word[3]}};
 }
 
-/* The xor of the entries of eight tables: at tables 0 and 1 bytes 0 and 1 of word a, at the next two bytes 2 and 3 of word b, and so on. */
-INLINE uint64_t look_up(uint64_t (*table)[256], const union block *x, unsigned a, unsigned b, unsigned c, unsigned d)
+INLINE struct block subtract(struct block x, struct block y)
 {
-    const uint8_t *byte = x->byte;
-
-    return table[0][byte[8 * a]] ^ table[1][byte[8 * a + 1]] ^ table[2][byte[8 * b + 2]] ^ table[3][byte[8 * b + 3]]
-           ^ table[4][byte[8 * c + 4]] ^ table[5][byte[8 * c + 5]] ^ table[6][byte[8 * d + 6]] ^ table[7][byte[8 * d + 7]];
+    return (struct block){{x.word[0] - y.word[0], x.word[1] - y.word[1], x.word[2] - y.word[2], x.word[3] - y.word[3]}};
 }
 
-INLINE void put_words(union block *x, uint64_t w0, uint64_t w1, uint64_t w2, uint64_t w3)
+INLINE struct block xor(struct block x, struct block y)
 {
-    x->word[0] = w0;
-    x->word[1] = w1;
-    x->word[2] = w2;
-    x->word[3] = w3;
+    return (struct block){{x.word[0] ^ y.word[0], x.word[1] ^ y.word[1], x.word[2] ^ y.word[2], x.word[3] ^ y.word[3]}};
 }
 
-/* A round of x, then xor of the key: word c has its bytes from the words c, c - 1, c - 2 and c - 3, counted modulo 4. */
-INLINE void round_and_xor(union block *y, union block *x, const union block *key)
+/* ---- A round and a round back ---- */
+
+/* The xor of the entries of eight tables: at tables 0 and 1 bytes 0 and 1 of a, at the next two bytes 2 and 3 of b, and so on. */
+INLINE uint64_t look_up(uint64_t (*table)[256], uint64_t a, uint64_t b, uint64_t c, uint64_t d)
 {
-    to_memory(x);
-    put_words(y, look_up(tables.t, x, 0, 3, 2, 1) ^ key->word[0], look_up(tables.t, x, 1, 0, 3, 2) ^ key->word[1],
-              look_up(tables.t, x, 2, 1, 0, 3) ^ key->word[2], look_up(tables.t, x, 3, 2, 1, 0) ^ key->word[3]);
+    return table[0][(uint8_t)a] ^ table[1][(uint8_t)(a >> 8)] ^ table[2][(uint8_t)(b >> 16)] ^ table[3][(uint8_t)(b >> 24)]
+           ^ table[4][(uint8_t)(c >> 32)] ^ table[5][(uint8_t)(c >> 40)] ^ table[6][(uint8_t)(d >> 48)] ^ table[7][d >> 56];
 }
 
-/* The same with the sum, word by word. */
-INLINE void round_and_sum(union block *y, union block *x, const union block *key)
+/* Substitution, shift and mixing: word c has its bytes from the words c, c - 1, c - 2 and c - 3, counted modulo 4. */
+INLINE struct block round_forward(struct block x)
 {
-    to_memory(x);
-    put_words(y, look_up(tables.t, x, 0, 3, 2, 1) + key->word[0], look_up(tables.t, x, 1, 0, 3, 2) + key->word[1],
-              look_up(tables.t, x, 2, 1, 0, 3) + key->word[2], look_up(tables.t, x, 3, 2, 1, 0) + key->word[3]);
+    const uint64_t *w = x.word;
+
+    return (struct block){{look_up(tables.t, w[0], w[3], w[2], w[1]), look_up(tables.t, w[1], w[0], w[3], w[2]),
+                           look_up(tables.t, w[2], w[1], w[0], w[3]), look_up(tables.t, w[3], w[2], w[1], w[0])}};
 }
 
-/* M inverse times each word of x. */
-INLINE void unmix(union block *y, union block *x)
+/* M inverse times a word. */
+INLINE uint64_t unmix(uint64_t w)
 {
-    to_memory(x);
-    put_words(y, look_up(tables.m_inverse, x, 0, 0, 0, 0), look_up(tables.m_inverse, x, 1, 1, 1, 1),
-              look_up(tables.m_inverse, x, 2, 2, 2, 2), look_up(tables.m_inverse, x, 3, 3, 3, 3));
+    return look_up(tables.m_inverse, w, w, w, w);
 }
 
-/*
- * The shift back and pi inverse, then xor of the key, then M inverse: word c has its bytes from the words c, c + 1, c + 2 and c + 3. M
- * inverse of a xor is the xor of M inverse of both, so what is looked up has M inverse in it, and M inverse of the key is made apart.
- */
-INLINE void round_back(union block *y, union block *x, union block *key)
+/* Two bytes of each word, from the first two of a on, each through its inverse of pi. */
+INLINE uint64_t unsubstitute(uint64_t a, uint64_t b, uint64_t c, uint64_t d)
 {
-    union block unmixed;
+    uint8_t(*table)[256] = tables.pi_inverse;
 
-    unmix(&unmixed, key);
-    to_memory(x);
-    put_words(y, look_up(tables.back, x, 0, 1, 2, 3) ^ unmixed.word[0], look_up(tables.back, x, 1, 2, 3, 0) ^ unmixed.word[1],
-              look_up(tables.back, x, 2, 3, 0, 1) ^ unmixed.word[2], look_up(tables.back, x, 3, 0, 1, 2) ^ unmixed.word[3]);
+    return table[0][(uint8_t)a] | (uint64_t)table[1][(uint8_t)(a >> 8)] << 8 | (uint64_t)table[2][(uint8_t)(b >> 16)] << 16
+           | (uint64_t)table[3][(uint8_t)(b >> 24)] << 24 | (uint64_t)table[0][(uint8_t)(c >> 32)] << 32
+           | (uint64_t)table[1][(uint8_t)(c >> 40)] << 40 | (uint64_t)table[2][(uint8_t)(d >> 48)] << 48
+           | (uint64_t)table[3][d >> 56] << 56;
 }
 
-/* The shift back and pi inverse. */
-INLINE void unshift(union block *y, union block *x)
+/* Mixing by M inverse, the shift back and pi inverse: word c has its bytes from the words c, c + 1, c + 2 and c + 3. */
+INLINE struct block round_back(struct block x)
 {
-    to_memory(x);
-#pragma GCC unroll 32
-    for (unsigned i = 0; i < BYTES; i++)
-        y->byte[i] = tables.pi_inverse[i % 4][x->byte[(i + i % 8 / 2 * 8) % BYTES]];
-    to_memory(y);
+    const uint64_t a = unmix(x.word[0]), b = unmix(x.word[1]), c = unmix(x.word[2]), d = unmix(x.word[3]);
+
+    return (struct block){{unsubstitute(a, b, c, d), unsubstitute(b, c, d, a), unsubstitute(c, d, a, b), unsubstitute(d, a, b, c)}};
 }
 
-INLINE void add(union block *x, const union block *y)
-{
-    put_words(x, x->word[0] + y->word[0], x->word[1] + y->word[1], x->word[2] + y->word[2], x->word[3] + y->word[3]);
-}
+/* ---- The key schedule ---- */
 
-INLINE void subtract(union block *x, const union block *y)
+INLINE struct block intermediate_key(struct block key)
 {
-    put_words(x, x->word[0] - y->word[0], x->word[1] - y->word[1], x->word[2] - y->word[2], x->word[3] - y->word[3]);
-}
+    struct block x = round_forward(add((struct block){{9, 0, 0, 0}}, key));
 
-INLINE void intermediate_key(union block *intermediate, const union block *key)
-{
-    static const union block zeros;
-    union block x = {{9, 0, 0, 0}}, y;
-
-    add(&x, key);
-    round_and_xor(&y, &x, key);
-    round_and_sum(&x, &y, key);
-    round_and_xor(intermediate, &x, &zeros);
+    x = round_forward(xor(x, key));
+    return round_forward(add(x, key));
 }
 
 /* Round key 2i. */
-INLINE void even_key(union block *even, const union block *key, const union block *intermediate, unsigned i)
+INLINE struct block even_key(struct block key, struct block intermediate, unsigned i)
 {
-    const uint64_t *k = key->word, c = UINT64_C(0x0001000100010001) << i;
-    union block mask = {{c, c, c, c}}, x = {{k[i % 4], k[(i + 1) % 4], k[(i + 2) % 4], k[(i + 3) % 4]}}, y;
+    const uint64_t *k = key.word, c = UINT64_C(0x0001000100010001) << i;
+    const struct block mask = add(intermediate, (struct block){{c, c, c, c}});
+    struct block x = {{k[i % 4], k[(i + 1) % 4], k[(i + 2) % 4], k[(i + 3) % 4]}};
 
-    add(&mask, intermediate);
-    add(&x, &mask);
-    round_and_xor(&y, &x, &mask);
-    round_and_sum(even, &y, &mask);
+    x = round_forward(add(x, mask));
+    x = round_forward(xor(x, mask));
+    return add(x, mask);
 }
 
 /* The round key after an even one: its bytes from byte 11 on, then the first eleven. */
-INLINE void odd_key(union block *odd, const union block *even)
+INLINE struct block odd_key(struct block even)
 {
-    const uint64_t *w = even->word;
+    const uint64_t *w = even.word;
 
-    put_words(odd, w[1] >> 24 | w[2] << 40, w[2] >> 24 | w[3] << 40, w[3] >> 24 | w[0] << 40, w[0] >> 24 | w[1] << 40);
+    return (struct block){{w[1] >> 24 | w[2] << 40, w[2] >> 24 | w[3] << 40, w[3] >> 24 | w[0] << 40, w[0] >> 24 | w[1] << 40}};
 }
 
 /* The fifteen round keys. */
-INLINE void round_keys(union block keys[KEYS], const union block *key)
+INLINE void round_keys(struct block keys[KEYS], struct block key)
 {
-    union block intermediate;
+    const struct block intermediate = intermediate_key(key);
 
-    intermediate_key(&intermediate, key);
 #pragma GCC unroll 8
     for (unsigned i = 0; i < 8; i++) {
-        even_key(&keys[2 * i], key, &intermediate, i);
+        keys[2 * i] = even_key(key, intermediate, i);
         if (i < 7)
-            odd_key(&keys[2 * i + 1], &keys[2 * i]);
+            keys[2 * i + 1] = odd_key(keys[2 * i]);
     }
+}
+
+/* ---- The calls ---- */
+
+INLINE struct block block_at(const uint8_t *bytes)
+{
+    struct block x;
+
+    memcpy(x.word, bytes, BYTES);
+    return x;
 }
 
 uint64_t kalyna_in_c_encipher(const uint8_t *key, size_t key_len, const uint8_t *source, size_t source_len, uint8_t *target,
                               size_t target_len)
 {
-    union block k, keys[KEYS], x, y;
+    struct block keys[KEYS], x;
 
     if (key_len != BYTES || source_len != BYTES || target_len != BYTES)
         return STRUMOK_REFUSED_BLOCK_LENGTH;
-    memcpy(k.byte, key, BYTES);
-    round_keys(keys, &k);
-    memcpy(x.byte, source, BYTES);
-    add(&x, &keys[0]);
-#pragma GCC unroll 6
-    for (unsigned i = 1; i < 13; i += 2) {
-        round_and_xor(&y, &x, &keys[i]);
-        round_and_xor(&x, &y, &keys[i + 1]);
-    }
-    round_and_xor(&y, &x, &keys[13]);
-    round_and_sum(&x, &y, &keys[14]);
-    memcpy(target, x.byte, BYTES);
+    round_keys(keys, block_at(key));
+    x = add(block_at(source), keys[0]);
+#pragma GCC unroll 13
+    for (unsigned i = 1; i < 14; i++)
+        x = xor(round_forward(x), keys[i]);
+    x = add(round_forward(x), keys[14]);
+    memcpy(target, x.word, BYTES);
     return STRUMOK_ACCEPTED;
 }
 
 uint64_t kalyna_in_c_decipher(const uint8_t *key, size_t key_len, const uint8_t *source, size_t source_len, uint8_t *target,
                               size_t target_len)
 {
-    union block k, keys[KEYS], x, y;
+    struct block keys[KEYS], x;
 
     if (key_len != BYTES || source_len != BYTES || target_len != BYTES)
         return STRUMOK_REFUSED_BLOCK_LENGTH;
-    memcpy(k.byte, key, BYTES);
-    round_keys(keys, &k);
-    memcpy(y.byte, source, BYTES);
-    subtract(&y, &keys[14]);
-    unmix(&x, &y);
-#pragma GCC unroll 6
-    for (unsigned i = 13; i > 1; i -= 2) {
-        round_back(&y, &x, &keys[i]);
-        round_back(&x, &y, &keys[i - 1]);
-    }
-    round_back(&y, &x, &keys[1]);
-    unshift(&x, &y);
-    subtract(&x, &keys[0]);
-    memcpy(target, x.byte, BYTES);
+    round_keys(keys, block_at(key));
+    x = round_back(subtract(block_at(source), keys[14]));
+#pragma GCC unroll 13
+    for (unsigned i = 13; i > 0; i--)
+        x = round_back(xor(x, keys[i]));
+    x = subtract(x, keys[0]);
+    memcpy(target, x.word, BYTES);
     return STRUMOK_ACCEPTED;
 }
