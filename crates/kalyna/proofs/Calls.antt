@@ -10,7 +10,7 @@ use lib.Dec.{eqb}
 use lib.ListN.{length, getD}
 use Rattle.galois.specs.Words.{tabulate}
 use Rattle.sboxes.specs.Sboxes.{piInverse}
-use Rattle.refusals.specs.Numbers.{accepted}
+use Rattle.refusals.specs.Numbers.{accepted, refusedBlockLength}
 use Rattle.refusals.specs.Tests.{returned, written}
 use Rattle.refusals.proofs.Lines.{Decides}
 use Rattle.kalyna_cipher.specs.Blocks.{blockOf, bytesOf}
@@ -88,6 +88,19 @@ module _ (key source target : ℕ) where
       all h (inl n) = n (eqb-true key 32 (h .0))
       all h (inr (inl n)) = n (eqb-true source 32 (h .1))
       all h (inr (inr n)) = n (eqb-true target 32 (h .2))
+
+  -- the number, by the first of the three that is not 32
+  pub key-not-32 : (key ≡ 32 → ⊥) → refusedBlockLength ≡ returned (blockTest key source target ∷ [])
+  key-not-32 n = sym (rw (ne-eqb key 32 n) refl)
+
+  pub source-not-32 : key ≡ 32 → (source ≡ 32 → ⊥) → refusedBlockLength ≡ returned (blockTest key source target ∷ [])
+  source-not-32 k n = sym (rw (eq-eqb key 32 k, ne-eqb source 32 n) refl)
+
+  pub target-not-32 : key ≡ 32 → source ≡ 32 → (target ≡ 32 → ⊥) → refusedBlockLength ≡ returned (blockTest key source target ∷ [])
+  target-not-32 k s n = sym (rw (eq-eqb key 32 k, eq-eqb source 32 s, ne-eqb target 32 n) refl)
+
+  pub three-of-32 : key ≡ 32 → source ≡ 32 → target ≡ 32 → accepted ≡ returned (blockTest key source target ∷ [])
+  three-of-32 k s t = sym (rw (eq-eqb key 32 k, eq-eqb source 32 s, eq-eqb target 32 t) refl)
 
   -- the number 0 says that all three are 32
   pub all-32 : {n : ℕ} → n ≡ returned (blockTest key source target ∷ []) → n ≡ accepted → (key ≡ 32) × (source ≡ 32) × (target ≡ 32)

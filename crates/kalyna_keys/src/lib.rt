@@ -57,19 +57,19 @@ fn rotate_bytes(k: [u64; 4]) -> [u64; 4]
 pub fn round_keys(key: [u64; 4], tables: &[[u64; 256]; 4]) -> [[u64; 4]; 15]
     ensures { λ r. ⌜ r ≡ tabulate 15 (roundKeyWith (roundBy (now (tables .entry))) key) ⌝ }
 {
-    let m = intermediate_key(key, tables);
+    let kt = intermediate_key(key, tables);
     let key0 = [key[0], key[1], key[2], key[3]];
     let key1 = [key[1], key[2], key[3], key[0]];
     let key2 = [key[2], key[3], key[0], key[1]];
     let key3 = [key[3], key[0], key[1], key[2]];
-    let k0 = even_key(key0, 0x0001000100010001, m, tables);
-    let k2 = even_key(key1, 0x0002000200020002, m, tables);
-    let k4 = even_key(key2, 0x0004000400040004, m, tables);
-    let k6 = even_key(key3, 0x0008000800080008, m, tables);
-    let k8 = even_key(key0, 0x0010001000100010, m, tables);
-    let k10 = even_key(key1, 0x0020002000200020, m, tables);
-    let k12 = even_key(key2, 0x0040004000400040, m, tables);
-    let k14 = even_key(key3, 0x0080008000800080, m, tables);
+    let k0 = even_key(key0, 0x0001000100010001, kt, tables);
+    let k2 = even_key(key1, 0x0002000200020002, kt, tables);
+    let k4 = even_key(key2, 0x0004000400040004, kt, tables);
+    let k6 = even_key(key3, 0x0008000800080008, kt, tables);
+    let k8 = even_key(key0, 0x0010001000100010, kt, tables);
+    let k10 = even_key(key1, 0x0020002000200020, kt, tables);
+    let k12 = even_key(key2, 0x0040004000400040, kt, tables);
+    let k14 = even_key(key3, 0x0080008000800080, kt, tables);
     [
         k0,
         rotate_bytes(k0),
