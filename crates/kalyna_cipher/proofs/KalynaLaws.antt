@@ -32,7 +32,7 @@ rounds-inverse R R′ i k w (suc n) = inverse-after (rounds-inverse R R′ i k w
 
 -- ---- the cipher
 
-pub fourteen-rounds : (R : List ℕ → List ℕ) (k : ℕ → List ℕ) (s : List ℕ) →
+fourteen-rounds : (R : List ℕ → List ℕ) (k : ℕ → List ℕ) (s : List ℕ) →
     encipherWith R k s
     ≡ added (k 14) (R (xored (k 13) (R (xored (k 12) (R (xored (k 11) (R (xored (k 10) (R (xored (k 9) (R (xored (k 8) (R (xored (k 7) (R (xored (k 6) (R (xored (k 5) (R (xored (k 4) (R (xored (k 3) (R (xored (k 2) (R (xored (k 1) (R (added (k 0) s))))))))))))))))))))))))))))
 unfolding rounds encipherWith

@@ -14,7 +14,7 @@ use Rattle.kalyna_cipher.specs.Enciphering.{encipherWith}
 use Rattle.kalyna_cipher.specs.RoundKeys.{intermediateKeyWith, evenKeyWith, rotatedBytes, evenOrOdd}
 use Rattle.kalyna_cipher.specs.Kalyna.{encipheredBytes}
 use Rattle.kalyna_cipher.specs.WorkedBlock.{bytesUpFrom, WorkedBlock}
-use Rattle.kalyna_cipher.proofs.KalynaLaws.{fourteen-rounds}
+use Rattle.kalyna_cipher.proofs.KalynaLaws.{kalyna-laws}
 
 -- a test that two lists are the same, which is soon done where they are not
 abbrev same : List ℕ → List ℕ → Bool
@@ -58,5 +58,5 @@ pub worked-block : WorkedBlock
 unfolding key gmul through rowTimes circulantTimes blockOf bytesOf added xored substituted shifted mixed round evenKeyWith rotatedBytes
 worked-block =
     record {
-      enciphering = from-intermediate ∙ ap bytesOf (fourteen-rounds round (keyWith intermediate) (blockOf (bytesUpFrom 32))) ∙ same-list _ _ tt;
+      enciphering = from-intermediate ∙ ap bytesOf (kalyna-laws .fourteen-rounds round (keyWith intermediate) (blockOf (bytesUpFrom 32))) ∙ same-list _ _ tt;
     }
