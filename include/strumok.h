@@ -27,8 +27,8 @@
  * A state is as secret as its key: strumok_check turns the one into the other. So is a key target, and the target of a deciphered key.
  * Secrecy of timing is not claimed: tables are indexed by bytes that are secret. No call wipes what it leaves on the stack.
  *
- * Stack, measured on x86-64: at most 22 KiB for a call, most of it for tables, 42 KiB for strumok_move where the distance is negative, and
- * 2 KiB for the two calls with tables that the caller holds.
+ * Stack, measured on x86-64: at most 22 KiB for a call, most of it for tables, 42 KiB for strumok_move where the distance is negative,
+ * 2 KiB for the two calls with tables that the caller holds, and for a block 10 KiB to encipher it and 19 KiB to decipher it.
  */
 #ifndef STRUMOK_H
 #define STRUMOK_H
