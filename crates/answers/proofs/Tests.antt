@@ -10,7 +10,7 @@ use Rattle.refusals.proofs.Tests.{returned_none}
 use Rattle.answers.specs.declared.Answer.{Answer}
 use Rattle.answers.specs.Tests.{limit, size_mark_test, position_test, WellFormed, answer_of}
 
--- a well_formed state is not above the last position
+-- a well-formed state is not above the last position
 pub position_le : (s : State) → WellFormed s → s.position ≤ limit
 position_le s e =
     let rest = (returned_none (size_mark_test s) (position_test s ∷ []) tt e).1 in

@@ -74,6 +74,6 @@ pub record LineLaws : Type 0 where
   -- the table's first column in numerals, up to 9
   pub table_numbers :
       (key iv : List ℕ) (s : State) (len n start : ℕ) (to : ℤ) → accepted ∷ numbers_of (table_lines key iv s len n start to) ≡ 0 ∷ 1 ∷ 2 ∷ 3 ∷ 4 ∷ 5 ∷ 6 ∷ 7 ∷ 8 ∷ 9 ∷ []
-  -- "A state is well_formed when neither 3 nor 4 of the table below applies to it."
+  -- "A state is well-formed when neither 3 nor 4 of the table below applies to it."
   pub well_formed : (s : State) → NoneApplies (state_lines s) → WellFormed s
   pub well_formed_only : (s : State) → WellFormed s → NoneApplies (state_lines s)

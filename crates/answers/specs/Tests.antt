@@ -48,7 +48,7 @@ state_tests s = size_mark_test s ∷ position_test s ∷ []
 
 -- ---- what is returned
 
--- document 01's term: "A state is well_formed when neither 3 nor 4 of the table below applies to it."
+-- document 01's term: "A state is well-formed when neither 3 nor 4 of the table below applies to it."
 abbrev pub WellFormed : State → Type 0
 WellFormed s = returned (state_tests s) ≡ accepted
 

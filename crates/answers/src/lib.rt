@@ -1,4 +1,6 @@
 // What all calls share: the answer, the last position, the tests of a state, and what a refusal gives back.
+#![tactic(auto)]
+
 ghost use Rattle.std.specs.Prelude.{◌≡◌};
 ghost use Rattle.refusals.specs.Tests.{returned};
 ghost use Rattle.answers.specs.Tests.{state_tests};
@@ -10,13 +12,13 @@ use refusals::numbers;
 pub const LIMIT: u64 = 16777216;
 
 // The number of the refusal, 0 where the call is accepted, and the state.
-#[derive(Drop)]
+#[derive(Clone, Copy)]
 pub struct Answer {
     pub number: u64,
     pub state: State,
 }
 
-// 3 or 4 where a state is not well_formed, else 0.
+// 3 or 4 where a state is not well-formed, else 0.
 pub fn state_number(s: State) -> u64
     ensures { result ≡ returned (state_tests s) }
 {

@@ -17,7 +17,7 @@ use Rattle.positions.specs.Positions.{moved_to}
 unfoldable pub keystream_byte : (key iv : List ℕ) → (p : ℕ) → ℕ
 keystream_byte key iv p = byte_at (keystream_word (registers_at key iv (p / 8))) p
 
--- the same of a state: "A well_formed state that no opening made is worked from its registers as they are."
+-- the same of a state: "A well-formed state that no opening made is worked from its registers as they are."
 unfoldable pub keystream_byte_of : State → (p : ℕ) → ℕ
 keystream_byte_of s p = byte_at (keystream_word (registers_of (moved_to s p))) p
 

@@ -79,5 +79,5 @@ pub record ApplyingLaws : Type 0 where
       (s : State) (buffer : List ℕ) (start count : ℕ) → start + count ≤ length buffer → let part = take count (drop start buffer) in
       (windowed s buffer start count ≡ applied s part part)
       × (windowed_buffer s buffer start count ≡ take start buffer ++ (applied_target s part part ++ drop (start + count) buffer))
-  -- "With a well_formed state n = 0 is accepted and alters nothing."
+  -- "With a well-formed state n = 0 is accepted and alters nothing."
   pub no_bytes : (s : State) (target : List ℕ) → WellFormed s → (applied s [] target ≡ record { number = accepted; state = s }) × (applied_target s [] target ≡ target)

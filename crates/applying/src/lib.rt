@@ -1,4 +1,6 @@
 // Applying the keystream from a source to a target, and over a window of one buffer: with tables that the caller lends, or with the cipher's.
+#![tactic(auto)]
+
 ghost use Rattle.std.specs.Prelude.{◌≡◌, ◌+◌, ◌≤◌, ltb, length};
 ghost use Rattle.generator.specs.declared.Kind.TheVariants.{Ordinary};
 ghost use Rattle.generator.specs.Functions.{next_in};
@@ -55,7 +57,7 @@ pub fn apply_with(s: State, tables: &[[u64; 256]; 10], source: &[u8], target: &m
     if number != numbers::ACCEPTED {
         return refused(number, s);
     }
-    bytes::copy(source, target);
+    copying::copy(source, target);
     let t = advance(s, tables, &mut target[..n]);
     Answer {
         number: numbers::ACCEPTED,

@@ -1,5 +1,7 @@
 // Lines of the program `vectors` on the block cipher: DSTU 7624's published vectors enciphered and deciphered, then keys, sources and targets of 31
 // and of 33 bytes.
+#![tactic(auto)]
+
 mod tables;
 
 use kalyna::{decipher, encipher};

@@ -1,4 +1,6 @@
 // The sixteen cells that a key and an IV load.
+#![tactic(auto)]
+
 ghost use Rattle.std.specs.Prelude.{◌≡◌};
 ghost use Rattle.galois.specs.Words.{at};
 ghost use Rattle.loading.specs.Loading.{rows256, rows512, loaded_cells, load};

@@ -47,7 +47,7 @@ pub record CheckingLaws : Type 0 where
   pub stored_checked : StoredChecked
   -- the state comes back as it came, accepted or not
   pub unaltered : (s : State) (iv target : List ℕ) → (checked s iv target).state ≡ s
-  -- a well_formed state to which a key leads is accepted with its IV, and the key is handed back
+  -- a well-formed state to which a key leads is accepted with its IV, and the key is handed back
   pub leads_checked :
       (key iv : List ℕ) (s : State) (target : List ℕ) → Leads key iv s → WellFormed s → length target ≡ length key
       → (checked s iv target ≡ record { number = accepted; state = s }) × (checked_target s iv target ≡ key)

@@ -1,4 +1,6 @@
 // Checking a stored state against an IV.
+#![tactic(auto)]
+
 ghost use Rattle.std.specs.Prelude.{◌≡◌, ◌&&◌};
 ghost use Rattle.generator.specs.Registers.{registers_of, with_registers};
 ghost use Rattle.loading.specs.Loading.{load};
@@ -104,7 +106,7 @@ pub fn check(s: State, iv: &[u8], target: &mut [u8]) -> Answer
     let mut key: [u8; 64] = [0; 64];
     recover_key(cells, iv, &mut key[..n]);
     if leads(t, &key[..n], iv) {
-        bytes::copy(&key[..n], target);
+        copying::copy(&key[..n], target);
         return Answer {
             number: numbers::ACCEPTED,
             state: s,

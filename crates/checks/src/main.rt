@@ -1,5 +1,7 @@
 // Runs the check of states, and prints a line for each: at five positions, with a bit of the state changed, and with
 // another IV. The file `stdout` beside it is what another implementation printed for the same list.
+#![tactic(auto)]
+
 ghost use Rattle.std.specs.Prelude.{◌≡◌};
 ghost use Rattle.checking.specs.Checking.{checked_target};
 

@@ -1,5 +1,7 @@
 // The cipher program, from standard input to standard output: it reads and writes; what it must write is said by the crates below. Where a read
 // or a write fails, or input is left over at the last position, it says so on standard error.
+#![tactic(auto)]
+
 mod stops;
 
 ghost use Rattle.std.specs.Prelude.{◌≡◌, ◌<◌, length};
@@ -16,7 +18,7 @@ use libc::{STDERR_FILENO, STDIN_FILENO, STDOUT_FILENO};
 use refusals::numbers;
 
 // How many bytes were read, and why no more were.
-#[derive(Drop)]
+#[derive(Clone, Copy)]
 struct Got {
     count: usize,
     stop: u64,
@@ -47,7 +49,7 @@ fn read_once(buffer: &mut [u8]) -> Got
 }
 
 // A header at the front of an array, with its length, and why no more of it was read.
-#[derive(Drop)]
+#[derive(Clone, Copy)]
 struct Header {
     bytes: [u8; 288],
     count: usize,
@@ -87,7 +89,7 @@ fn write_refusal(number: u64) -> u64
 }
 
 // The state after a piece, and why the program goes no further.
-#[derive(Drop)]
+#[derive(Clone, Copy)]
 struct Turn {
     state: State,
     stop: u64,

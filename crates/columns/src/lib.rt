@@ -1,4 +1,6 @@
 // The eight tables of T, those of the inverse of M, and the ten of a step, by value: hold them in a local and lend them.
+#![tactic(auto)]
+
 ghost use Rattle.std.specs.Prelude.{◌≡◌};
 ghost use Rattle.substitution.specs.Substitution.{substitution_tables, matrix_inverse_tables, step_tables};
 

@@ -1,4 +1,6 @@
 // The content of a field of RFC 4180 text: its quotes removed, and doubled quotes made single.
+#![tactic(auto)]
+
 ghost use Rattle.std.specs.Prelude.{◌≡◌, false, ◌++◌, ◌+◌, ◌-◌, ◌<◌, ◌≤◌, length, take, drop, get_or};
 ghost use Rattle.csv_contents.specs.Contents.{unquoted, answer_of, target_of};
 ghost use Rattle.csv_contents.specs.Measures.{InsideRun, QuoteAt, run_stop, Measures};
@@ -6,14 +8,14 @@ ghost use Rattle.csv_contents.specs.Measures.{InsideRun, QuoteAt, run_stop, Meas
 use refusals::numbers;
 
 // The count of bytes written, or the number of the refusal and its place.
-#[derive(Drop)]
+#[derive(Clone, Copy)]
 pub enum Written {
     Bytes(usize),
     Refused(u64, usize),
 }
 
 // Whether a part is a field, and the length of its content if it is one.
-#[derive(Drop)]
+#[derive(Clone, Copy)]
 pub struct Measured {
     pub whole: bool,
     pub len: usize,
@@ -120,7 +122,7 @@ fn write_run(part: &[u8], i: usize, k: usize, target: &mut [u8], o: usize)
     requires { (i ≤ k) × (k ≤ length part.now) × (o + (k - i) ≤ length target.old) }
     ensures { target.new ≡ take o target.old ++ (take (k - i) (drop i part.now) ++ drop (o + (k - i)) target.old) }
 {
-    bytes::copy(&part[i..k], &mut target[o..]);
+    copying::copy(&part[i..k], &mut target[o..]);
 }
 
 // The end of what a quote at place q leaves of the run before it in a part of n bytes: with the quote, but for the closing one.
@@ -170,6 +172,6 @@ pub fn content(part: &[u8], target: &mut [u8]) -> Written
             return Written::Bytes(n);
         }
     }
-    bytes::copy(part, target);
+    copying::copy(part, target);
     Written::Bytes(n)
 }

@@ -1,16 +1,18 @@
 // Where a field of RFC 4180 text ends: runs of TEXTDATA, fields in quotes, and either.
+#![tactic(auto)]
+
 ghost use Rattle.std.specs.Prelude.{◌≡◌, false, ◌<◌, ◌-◌, length, drop, get_or};
 ghost use Rattle.csv_fields.specs.Ends.{is_text_data, is_inside, plain_end, plain_end_in, quoted_end, field_end, InsideEnd};
 
 // Where the bytes that belong to a field end, and whether they are a field by then.
-#[derive(Drop)]
+#[derive(Clone, Copy)]
 pub struct FieldEnd {
     pub at: usize,
     pub whole: bool,
 }
 
 // Where a run of TEXTDATA ends, and whether another byte stands there.
-#[derive(Drop)]
+#[derive(Clone, Copy)]
 pub struct PlainEnd {
     pub at: usize,
     pub within: bool,

@@ -7,7 +7,7 @@ use Rattle.std.specs.Prelude.{ℕ, ◌≤◌, ◌⊎◌, List, [], ◌∷◌, �
 abbrev pub TextData : ℕ → Type 0
 TextData b = ((32 ≤ b) × (b ≤ 33)) ⊎ (((35 ≤ b) × (b ≤ 43)) ⊎ (((45 ≤ b) × (b ≤ 126)) ⊎ (128 ≤ b)))
 
--- "non_escaped = *TEXTDATA"
+-- "non-escaped = *TEXTDATA"
 pub data NonEscaped : List ℕ → Type 0 where
   none : NonEscaped []
   textdata : {b : ℕ} {s : List ℕ} → TextData b → NonEscaped s → NonEscaped (b ∷ s)
@@ -21,7 +21,7 @@ pub data InQuotes : List ℕ → Type 0 where
   lf : {s : List ℕ} → InQuotes s → InQuotes (10 ∷ s)
   two_quotes : {s : List ℕ} → InQuotes s → InQuotes (34 ∷ (34 ∷ s))
 
--- "field = (escaped / non_escaped)", "escaped = DQUOTE *(TEXTDATA / COMMA / CR / LF / 2DQUOTE) DQUOTE"
+-- "field = (escaped / non-escaped)", "escaped = DQUOTE *(TEXTDATA / COMMA / CR / LF / 2DQUOTE) DQUOTE"
 pub data Field : List ℕ → Type 0 where
   non_escaped : {s : List ℕ} → NonEscaped s → Field s
   escaped : {s : List ℕ} → InQuotes s → Field (34 ∷ (s ++ (34 ∷ [])))

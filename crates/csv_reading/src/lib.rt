@@ -1,4 +1,6 @@
 // Reading RFC 4180 text: the counts of its rows and columns, or its first fault. The reading goes field by field.
+#![tactic(auto)]
+
 ghost use Rattle.std.specs.Prelude.{◌≡◌, ◌+◌, ◌<◌, ◌^◌, ltb, length};
 ghost use Rattle.csv_grammar.specs.Faults.{Reads};
 ghost use Rattle.csv_reading.specs.Steps.{going_on, over_at, answer_of, ragged, with_line, after_comma, blank_from, after_cr, at_end, at_byte, after_field, step_of};
@@ -10,7 +12,7 @@ use refusals::numbers;
 pub const MOST_FIELDS: usize = 32;
 
 // The rows before this line, the fields before this one in its line, and the fields of the first row.
-#[derive(Drop)]
+#[derive(Clone, Copy)]
 pub struct Tally {
     pub rows: usize,
     pub fields: usize,
@@ -18,7 +20,7 @@ pub struct Tally {
 }
 
 // What a reading comes to after a field: it goes on with these counts at a later place, or is over, with a refusal and its place or with the counts.
-#[derive(Drop)]
+#[derive(Clone, Copy)]
 pub struct Progress {
     pub over: bool,
     pub number: u64,

@@ -1,4 +1,6 @@
 // Walking over RFC 4180 text field by field, and the part of the text where a field stands.
+#![tactic(auto)]
+
 ghost use Rattle.std.specs.Prelude.{◌≡◌, drop};
 ghost use Rattle.csv_walking.specs.Walking.{skip_from, start_of, over_at, after_field, next_of, first};
 ghost use Rattle.csv_walking.specs.Parts.{sought_of, Found, Part, HandsOver};
@@ -6,21 +8,21 @@ ghost use Rattle.csv_walking.specs.Parts.{sought_of, Found, Part, HandsOver};
 use csv_grammar::{Answer, Span};
 
 // Where a walk stands: at a place, before another field of a row or at the start of a line.
-#[derive(Drop)]
+#[derive(Clone, Copy)]
 pub struct Cursor {
     pub at: usize,
     pub inside: bool,
 }
 
 // What a walk comes to: the next field and the cursor after it, or the end.
-#[derive(Drop)]
+#[derive(Clone, Copy)]
 pub enum Visit {
     Field(Span, Cursor),
     Done,
 }
 
 // Whether a field is the one looked for, or how many rows and columns are still to come.
-#[derive(Drop)]
+#[derive(Clone, Copy)]
 pub enum Sought {
     Here,
     Nowhere,

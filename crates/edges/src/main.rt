@@ -1,5 +1,7 @@
 // Runs document 01's edges, and prints a line for each: the lengths of a key, and for both key sizes portions, moves and
 // a window. The file `stdout` beside it is what another implementation printed for the same list.
+#![tactic(auto)]
+
 ghost use Rattle.std.specs.Prelude.{◌≡◌};
 ghost use Rattle.galois.specs.Words.{tabulate};
 ghost use Rattle.applying.specs.Applying.{applied};

@@ -1,4 +1,6 @@
 // The cipher program's input: the state that its header opens, how much of the data to take at a time, and the line of a refusal.
+#![tactic(auto)]
+
 ghost use Rattle.std.specs.Prelude.{◌≡◌, ◌+◌, ◌-◌, ◌<◌, ◌≤◌, min, length};
 ghost use Rattle.io.specs.Counts.{IsPrefixLen};
 ghost use Rattle.answers.specs.Tests.{limit};
@@ -60,7 +62,7 @@ pub fn start(header: &[u8]) -> Answer
 }
 
 // A line at the front of its bytes, and its length.
-#[derive(Drop)]
+#[derive(Clone, Copy)]
 pub struct RefusalLine {
     pub bytes: [u8; 29],
     pub count: usize,
@@ -75,8 +77,8 @@ pub fn refusal_line(number: u64) -> RefusalLine
     let k = io::decimal(number, &mut digits);
     let end = 8 + k;
     let mut bytes = [0u8; 29];
-    bytes::copy(b"refused ", &mut bytes[..8]);
-    bytes::copy(&digits[..k], &mut bytes[8..end]);
+    copying::copy(b"refused ", &mut bytes[..8]);
+    copying::copy(&digits[..k], &mut bytes[8..end]);
     bytes[end] = b'\n';
     RefusalLine {
         bytes,

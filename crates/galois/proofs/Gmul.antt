@@ -1,4 +1,4 @@
--- The product of two bytes: a byte, xor_linear in its second operand, and what the loop of `product` keeps.
+-- The product of two bytes: a byte, xor-linear in its second operand, and what the loop of `product` keeps.
 use mathlib.Core.Path.{◌≡◌, refl, ap, ◌∙◌}
 use Prim.Native.Nat.{ℕ, zero, suc, ◌-◌, ◌*◌, ◌/◌, ◌%◌, ◌<◌, ◌≤◌}
 use native.Mathlib.Nat.{mod-lt, zero-lt-suc, not-suc-le-zero, zero-mul, one-mul}

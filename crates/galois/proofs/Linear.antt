@@ -46,7 +46,7 @@ module _ (f : ℕ → ℕ) (linear : Linear f) where
       ∙ ap₂ bit_xor (multiple_fixed (2 ^ n) high bit (t n (omega arith))) (fixes_below n (λ k h. t k (omega arith)) low (mod-lt w (pow_pos n)))
       ∙ parts
 
-  -- a xor_linear map that fixes the powers of two below 2 ^ n fixes every number below 2 ^ n
+  -- a xor-linear map that fixes the powers of two below 2 ^ n fixes every number below 2 ^ n
   pub fixes : (n : ℕ) → FixesPowers f n → (w : ℕ) → w < 2 ^ n → f w ≡ w
   fixes n test = fixes_below n (power_fixed f n test)
 

@@ -1,4 +1,6 @@
 // Bytes and words, the byte field, the tables of α and of its inverse, and the products of a word with α and its inverse by table.
+#![tactic(auto)]
+
 ghost use Rattle.std.specs.Prelude.{◌≡◌, ◌+◌, ◌*◌, ◌%◌, ◌^◌};
 ghost use Rattle.galois.specs.Words.{byte, at};
 ghost use Rattle.galois.specs.Field.{xtime, gmul};

@@ -1,4 +1,6 @@
 // The state of the cipher, and one step of it forward and back, ordinary or of initialisation. Tables are lent.
+#![tactic(auto)]
+
 ghost use Rattle.std.specs.Prelude.{◌≡◌, [], ◌∷◌, ◌++◌, take, drop};
 ghost use Rattle.generator.specs.Registers.{F, mixed, keystream_word, registers_of, stepped_by};
 ghost use Rattle.substitution.specs.Substitution.{look_up};
@@ -12,7 +14,7 @@ use words::subtract;
 // The cells s0..s15, the registers r1 and r2, the size mark (256 or 512) and the byte position, which is the point that the state claims. To C
 // it is twenty 64-bit words in this order.
 #[repr(C)]
-#[derive(Drop)]
+#[derive(Clone, Copy)]
 pub struct State {
     pub cells: [u64; 16],
     pub r1: u64,
@@ -22,14 +24,14 @@ pub struct State {
 }
 
 // An ordinary step, or one of initialisation.
-#[derive(Drop)]
+#[derive(Clone, Copy)]
 pub enum Kind {
     Ordinary,
     Initial,
 }
 
 // What a step forward answers with, ordinary or of initialisation: the new state, and the keystream word of the state that it left.
-#[derive(Drop)]
+#[derive(Clone, Copy)]
 pub struct Stepped {
     pub state: State,
     pub word: u64,

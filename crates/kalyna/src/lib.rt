@@ -1,4 +1,6 @@
 // The block cipher of DSTU 7624:2014 (Kalyna) with block and key of 256 bits: a block enciphered and deciphered under a key, all as bytes.
+#![tactic(auto)]
+
 ghost use Rattle.std.specs.Prelude.{◌≡◌, [], ◌∷◌, get_or, length};
 ghost use Rattle.refusals.specs.Tests.{returned};
 ghost use Rattle.kalyna_cipher.specs.Blocks.{block_of, bytes_of};

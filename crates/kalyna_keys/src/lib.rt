@@ -1,4 +1,6 @@
 // The block cipher of DSTU 7624:2014: the fifteen round keys of a key of four words. The tables of a round are lent.
+#![tactic(auto)]
+
 ghost use Rattle.std.specs.Prelude.{◌≡◌, [], ◌∷◌};
 ghost use Rattle.galois.specs.Words.{tabulate};
 ghost use Rattle.words.specs.Memory.{bytes_from};

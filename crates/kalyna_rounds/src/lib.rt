@@ -1,5 +1,7 @@
 // The block cipher of DSTU 7624:2014 on four words: round keys added, subtracted and xored word by word; a round by the first four tables of T, and
 // back by the first four of M inverse and those of π inverse. Tables are lent.
+#![tactic(auto)]
+
 ghost use Rattle.std.specs.Prelude.{◌≡◌, ◌<◌, [], ◌∷◌};
 ghost use Rattle.substitution.specs.Substitution.{halves_exchanged};
 ghost use Rattle.kalyna_cipher.specs.Rounds.{added, subtracted, xored};

@@ -1,4 +1,6 @@
 // The keystream over a buffer, in place, from any byte of a state's word on. Tables are lent.
+#![tactic(auto)]
+
 ghost use Rattle.std.specs.Prelude.{◌+◌, ◌%◌, ◌<◌, ◌≤◌, length};
 ghost use Rattle.generator.specs.declared.Kind.TheVariants.{Ordinary};
 ghost use Rattle.generator.specs.Functions.{next_in};

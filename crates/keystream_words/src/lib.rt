@@ -1,4 +1,6 @@
 // The keystream over the whole words of a buffer, in place, from the start of a word on. Tables are lent.
+#![tactic(auto)]
+
 ghost use Rattle.std.specs.Prelude.{◌≡◌, ◌*◌, ◌/◌, ◌%◌, ◌<◌, length};
 ghost use Rattle.generator.specs.declared.Kind.TheVariants.{Ordinary};
 ghost use Rattle.generator.specs.Functions.{next_in};

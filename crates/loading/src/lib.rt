@@ -1,4 +1,6 @@
 // The words of a key and an IV.
+#![tactic(auto)]
+
 ghost use Rattle.std.specs.Prelude.{◌≡◌, reverse, ◌<◌};
 ghost use Rattle.galois.specs.Words.{at, tabulate};
 ghost use Rattle.loading.specs.Loading.{word_of};

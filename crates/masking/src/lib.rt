@@ -1,4 +1,6 @@
 // A word of keystream over bytes, in place: over eight bytes at once, or byte by byte from any byte of the word on.
+#![tactic(auto)]
+
 ghost use Rattle.std.specs.Prelude.{◌≡◌};
 ghost use Rattle.masking.specs.Masking.{byte_at, masked};
 

@@ -1,4 +1,4 @@
--- Sums by xor: when they are bytes, equal, or xor_linear, and the word whose bytes are such sums.
+-- Sums by xor: when they are bytes, equal, or xor-linear, and the word whose bytes are such sums.
 use mathlib.Core.Path.{◌≡◌, refl, sym, ap, ap₂, ◌∙◌}
 use Prim.Native.Nat.{ℕ, zero, suc, ◌+◌, ◌*◌, ◌<◌}
 use native.Mathlib.Nat.{lt-suc_self, le_step}

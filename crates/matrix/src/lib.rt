@@ -1,4 +1,6 @@
 // The matrix M and its inverse by their rows 0, and a circulant matrix of bytes times the bytes of a word.
+#![tactic(auto)]
+
 ghost use Rattle.std.specs.Prelude.{◌≡◌, ◌<◌};
 ghost use Rattle.matrix.specs.Matrix.{matrix_row, matrix_inverse_row, row_times, circulant_times};
 

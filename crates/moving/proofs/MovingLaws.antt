@@ -23,7 +23,7 @@ use Rattle.moving.proofs.Moves.{end_tests, moves_to}
 
 -- ---- what an accepted move tells
 
--- the state is well_formed, and the move ends at position q, which is not above the last
+-- the state is well-formed, and the move ends at position q, which is not above the last
 record Ends (s : State) (distance : ℤ) : Type 0 where
   pub well_formed : WellFormed s
   pub to : ℕ

@@ -17,7 +17,7 @@ pub record MovingLaws : Type 0 where
   pub refuses : MovingRefusals
   -- "an accepted one leaves the state at the old position plus that count."
   pub new_position_lem : (s : State) (distance : ℤ) → (moved s distance).number ≡ accepted → pos (moved s distance).state.position ≡ new_position s distance
-  -- which is well_formed
+  -- which is well-formed
   pub moved_well_formed : (s : State) (distance : ℤ) → (moved s distance).number ≡ accepted → WellFormed (moved s distance).state
   -- there and back is the identity
   pub there_and_back : (s : State) (distance : ℤ) → EighteenWords (registers_of s) → (moved s distance).number ≡ accepted → moved (moved s distance).state (neg_ℤ distance) ≡ record { number = accepted; state = s }

@@ -1,4 +1,6 @@
 // Moving a state forward or back.
+#![tactic(auto)]
+
 ghost use Rattle.std.specs.Prelude.{◌≡◌};
 ghost use Rattle.moving.specs.Moving.{moved};
 ghost use Rattle.moving.specs.Functions.{span_of};
@@ -9,7 +11,7 @@ use positions::move_to;
 use refusals::numbers;
 
 // A signed count as a direction and a number: count bytes on, or count + 1 bytes back.
-#[derive(Drop)]
+#[derive(Clone, Copy)]
 struct Span {
     back: bool,
     count: u64,

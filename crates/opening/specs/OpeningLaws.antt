@@ -29,7 +29,7 @@ pub record OpeningLaws : Type 0 where
   pub gives_1 : (key iv : List ℕ) → (length key ≡ 32 → ⊥) → (length key ≡ 64 → ⊥) → opened key iv ≡ record { number = 1; state = blank }
   pub gives_2 : (key iv : List ℕ) → (length key ≡ 32) ⊎ (length key ≡ 64) → (length iv ≡ 32 → ⊥) → opened key iv ≡ record { number = 2; state = blank }
   pub gives_14 : (n : ℕ) (iv : List ℕ) → (n ≡ 32) ⊎ (n ≡ 64) → length iv ≡ 32 → opened (zeros n) iv ≡ record { number = 14; state = blank }
-  -- a key leads to the state that it opens, which is well_formed and stands at position 0
+  -- a key leads to the state that it opens, which is well-formed and stands at position 0
   pub opened_leads : (key iv : List ℕ) → OpeningAccepts key iv → Leads key iv (opened key iv).state
   pub opened_well_formed : (key iv : List ℕ) → (opened key iv).number ≡ accepted → WellFormed (opened key iv).state
   pub opened_position : (key iv : List ℕ) → (opened key iv).number ≡ accepted → (opened key iv).state.position ≡ 0

@@ -1,4 +1,6 @@
 // Opening a state from key and IV.
+#![tactic(auto)]
+
 ghost use Rattle.std.specs.Prelude.{◌≡◌};
 ghost use Rattle.generator.specs.Registers.{registers_of, with_registers};
 ghost use Rattle.loading.specs.Loading.{initialised};

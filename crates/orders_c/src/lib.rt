@@ -1,4 +1,6 @@
 // The reader of order files for C: each call with the number of its answer returned, and its values in words that the caller lends.
+#![tactic(auto)]
+
 ghost use Rattle.std.specs.Prelude.{◌≡◌, length};
 ghost use Rattle.csv_walking.specs.Walking.{next_of};
 ghost use Rattle.csv_contents.specs.Contents.{answer_of, target_of, number_of};

@@ -8,7 +8,7 @@ use Rattle.answers.specs.Tests.{limit, WellFormed}
 use Rattle.opening.specs.Opening.{opened, OpeningAccepts, Leads}
 use Rattle.positions.specs.Positions.{moved_to}
 
--- a state to which a key leads, well_formed, at position p: where a call that is accepted leaves it
+-- a state to which a key leads, well-formed, at position p: where a call that is accepted leaves it
 pub record LedTo (key iv : List ℕ) (t : State) (p : ℤ) : Type 0 where
   pub key_leads_lem : Leads key iv t
   pub well_formed : WellFormed t
@@ -16,7 +16,7 @@ pub record LedTo (key iv : List ℕ) (t : State) (p : ℤ) : Type 0 where
 
 pub record PositionLaws : Type 0 where
   pub position_moved : (s : State) (to : ℕ) → (moved_to s to).position ≡ to
-  -- a well_formed state is so at every position up to the last
+  -- a well-formed state is so at every position up to the last
   pub moved_to_well_formed : (s : State) (to : ℕ) → WellFormed s → to ≤ limit → WellFormed (moved_to s to)
   -- where a state is moved depends on positions alone, and where it stands already it is as it was
   pub moved_moved : (s : State) (p q : ℕ) → EighteenWords (registers_of s) → moved_to (moved_to s p) q ≡ moved_to s q

@@ -9,6 +9,6 @@ abbrev pub walk : (a b : ℕ) → Registers → Registers
 walk a b r = iterate (previous Ordinary) (a - b) (iterate (next Ordinary) (b - a) r)
 
 -- the state at the byte position `to`: "A state at position p holds the registers of S at word floor(p/8)."
--- "A well_formed state that no opening made is worked from its registers as they are."
+-- "A well-formed state that no opening made is worked from its registers as they are."
 unfoldable pub moved_to : State → (to : ℕ) → State
 moved_to s to = state_of (walk (s.position / 8) (to / 8) (registers_of s)) s.size to

@@ -1,4 +1,6 @@
 // A state at another position: its registers walked to that position's word, forward or back, with the cipher's tables.
+#![tactic(auto)]
+
 ghost use Rattle.std.specs.Prelude.{◌≡◌};
 ghost use Rattle.generator.specs.declared.Kind.TheVariants.{Ordinary};
 ghost use Rattle.generator.specs.Registers.{next, previous, walked};

@@ -1,5 +1,7 @@
 // What a program prints: text, numbers, bytes, words, and the parts of a line. No function here has an answer, and none is lent anything that it
 // could write, so there is nothing that a contract could say: what is printed is compared by the gate.
+#![tactic(auto)]
+
 use libc::STDOUT_FILENO;
 
 pub fn text(t: &[u8]) {

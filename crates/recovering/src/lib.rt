@@ -1,4 +1,6 @@
 // The key that sixteen cells give with an IV.
+#![tactic(auto)]
+
 ghost use Rattle.std.specs.Prelude.{◌≡◌, ◌*◌, length};
 ghost use Rattle.galois.specs.Words.{at, tabulate};
 ghost use Rattle.loading.specs.Loading.{rows_of};

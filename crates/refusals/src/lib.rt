@@ -1,2 +1,4 @@
 // The numbers that a call answers with.
+#![tactic(auto)]
+
 pub mod numbers;

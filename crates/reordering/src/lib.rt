@@ -1,5 +1,7 @@
 // Bytes that were enciphered in the old order of a word's bytes, turned into the new order in place: both keystreams are applied together, so that the
 // bytes are never deciphered on the way.
+#![tactic(auto)]
+
 ghost use mathlib.Core.Path.{◌≡◌};
 ghost use Prim.Native.Nat.{◌+◌, ◌-◌, ◌%◌, ◌≤◌, min};
 ghost use lib.Bits.{bit_xor};

@@ -1,4 +1,6 @@
 // The four tables of π and their inverses, and the bytes of a word through four tables.
+#![tactic(auto)]
+
 ghost use Rattle.std.specs.Prelude.{◌≡◌};
 ghost use Rattle.sboxes.specs.Sboxes.{pi, pi_inverse, through};
 

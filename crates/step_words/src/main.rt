@@ -1,5 +1,7 @@
 // Runs steps of both kinds from loadings on, and prints the words that they hand over. The file `stdout` beside it is what another implementation
 // printed for the same list.
+#![tactic(auto)]
+
 ghost use Rattle.std.specs.Prelude.{◌≡◌, length};
 ghost use Rattle.generator.specs.Registers.{walked, stepped_by, words_along};
 ghost use Rattle.generator.specs.Functions.{next_in};

@@ -25,7 +25,7 @@ pub record ChainLaws : Type 0 where
   pub call_reaches :
       (key iv : List ℕ) (calls : List Call) (s : State) (c : Call) → Reached key iv calls s → (answer_to s c).number ≡ accepted
       → Reached key iv (calls ++ (c ∷ [])) (answer_to s c).state
-  -- where a chain ends the key leads to the state, which is well_formed and stands at the sum of the counts
+  -- where a chain ends the key leads to the state, which is well-formed and stands at the sum of the counts
   pub reached_leads : (key iv : List ℕ) (calls : List Call) (s : State) → Reached key iv calls s → Leads key iv s
   pub reached_well_formed : (key iv : List ℕ) (calls : List Call) (s : State) → Reached key iv calls s → WellFormed s
   pub reached_position : (key iv : List ℕ) (calls : List Call) (s : State) → Reached key iv calls s → pos s.position ≡ total calls

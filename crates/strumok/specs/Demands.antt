@@ -51,7 +51,7 @@ Keystream = (key iv : List ℕ) (calls : List Call) (s : State) → Reached key 
 -- ---- 3. Stored states
 
 pub record StoredStates : Type 0 where
-  -- "a well_formed stored state (neither 3 nor 4 of the table applies) is accepted for a 32-byte IV and a key target of its key's length exactly
+  -- "a well-formed stored state (neither 3 nor 4 of the table applies) is accepted for a 32-byte IV and a key target of its key's length exactly
   -- when some key of its size that opening accepts with that IV leads to that very state." (`Stored` of checking/specs/CheckingLaws.antt)
   pub checking : StoredChecked
   -- the state comes back as it came, accepted or not

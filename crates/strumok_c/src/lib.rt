@@ -1,5 +1,7 @@
 // The calls for C: those of the stream cipher, each over a state of twenty words, with the number of its answer returned; the tables that a caller may
 // hold; and the block cipher.
+#![tactic(auto)]
+
 ghost use Rattle.std.specs.Prelude.{◌≡◌};
 ghost use Rattle.generator.specs.declared.Kind.TheVariants.{Ordinary};
 ghost use Rattle.substitution.specs.Substitution.{step_tables};

@@ -1,4 +1,6 @@
 // The window call with the state lent, for firmware: as `&mut`, exported for C, and by value above that.
+#![tactic(auto)]
+
 ghost use Rattle.std.specs.Prelude.{◌≡◌};
 ghost use Rattle.applying.specs.Applying.{windowed, windowed_buffer};
 

@@ -1,4 +1,6 @@
 // The substitution T: plainly, through eight tables, and inverted.
+#![tactic(auto)]
+
 ghost use Rattle.std.specs.Prelude.{◌≡◌};
 ghost use Rattle.substitution.specs.Substitution.{substitute, substitute_inverse, look_up, look_up_through};
 

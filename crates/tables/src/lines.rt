@@ -28,7 +28,7 @@ fn value_end(value: u64) -> [u8; 18]
 }
 
 // The lines, each in two parts, in their order.
-#[derive(Drop)]
+#[derive(Clone, Copy)]
 pub struct Lines {
     pub mula: [u8; 7],
     pub alpha: [u8; 18],

@@ -1,4 +1,6 @@
 // The tables program: entry 01 of the table of α, entry 01 of that of α inverse, and T(0), a line each.
+#![tactic(auto)]
+
 use libc::STDOUT_FILENO;
 
 mod lines;

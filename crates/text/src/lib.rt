@@ -1,4 +1,6 @@
 // A word in hexadecimal digits, in capitals.
+#![tactic(auto)]
+
 ghost use Rattle.std.specs.Prelude.{◌≡◌, ◌*◌, ◌/◌, ◌%◌, ◌^◌, ◌<◌};
 ghost use Rattle.text.specs.Text.{hex_digit, hex_word};
 

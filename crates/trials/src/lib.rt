@@ -1,4 +1,6 @@
 // What the programs that run edges, checks and steps share: keys and IVs, and the state of a key and an IV at a position.
+#![tactic(auto)]
+
 pub mod tables;
 
 ghost use Rattle.std.specs.Prelude.{◌≡◌};

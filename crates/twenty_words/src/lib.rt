@@ -1,4 +1,6 @@
 // A state as the twenty words that C holds.
+#![tactic(auto)]
+
 ghost use Rattle.std.specs.Prelude.{◌≡◌};
 ghost use Rattle.twenty_words.specs.TwentyWords.{state_in, words_of};
 

@@ -1,6 +1,8 @@
 // Runs DSTU 8845's published vectors, then keys of zeros and pairs of key and IV that load the same cells as these, then DSTU 7624's published
 // vectors and lengths that its block cipher refuses, and prints a line for each. The file `stdout` beside it is what another implementation
 // printed for the same list.
+#![tactic(auto)]
+
 mod tables;
 
 use generator::State;

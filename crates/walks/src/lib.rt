@@ -1,4 +1,6 @@
 // Walks of n steps, forward and back. Ordinary steps go eight in a straight line. Tables are lent.
+#![tactic(auto)]
+
 ghost use Rattle.std.specs.Prelude.{◌≡◌, ◌*◌};
 ghost use Rattle.generator.specs.declared.Kind.TheVariants.{Ordinary};
 ghost use Rattle.generator.specs.Registers.{walked};

@@ -1,4 +1,6 @@
 // Words of 64 bits: their difference, and a word as eight bytes in memory, the least significant first.
+#![tactic(auto)]
+
 ghost use Rattle.std.specs.Prelude.{◌≡◌, ◌<◌};
 ghost use Rattle.galois.specs.Words.{at, difference, word};
 ghost use Rattle.words.specs.Memory.{stored_word};

@@ -4,12 +4,8 @@ use Rattle.galois.specs.Field.{gmul}
 use Rattle.galois.specs.Alpha.{scaled, alpha_inverse_row, alpha_inverse_table}
 use Rattle.galois.proofs.Spread.{spread, spread_is}
 use Rattle.galois.proofs.AlphaLaws.{scaled_linear}
-use Rattle.galois.proofs.alpha_inverse_table.Statement.{statement}
-use Rattle.galois.proofs.alpha_inverse_table.Tie as tie
+use Rattle.galois.proofs.alpha_inverse_table.Goals as goal
 
-returns : tie.Need-returns
+pub returns : goal.returns
 unfolding gmul alpha_inverse_table
 returns c = ◌∙◌ {b = spread (scaled alpha_inverse_row) 8} refl (spread_is (scaled alpha_inverse_row) (scaled_linear alpha_inverse_row) 8)
-
-pub alpha_inverse_table_spec : {M : Type 1} → statement M
-alpha_inverse_table_spec = tie.close (tie.spec returns)

@@ -4,12 +4,8 @@ use Rattle.galois.specs.Field.{gmul}
 use Rattle.galois.specs.Alpha.{scaled, alpha_row, alpha_table}
 use Rattle.galois.proofs.Spread.{spread, spread_is}
 use Rattle.galois.proofs.AlphaLaws.{scaled_linear}
-use Rattle.galois.proofs.alpha_table.Statement.{statement}
-use Rattle.galois.proofs.alpha_table.Tie as tie
+use Rattle.galois.proofs.alpha_table.Goals as goal
 
-returns : tie.Need-returns
+pub returns : goal.returns
 unfolding gmul alpha_table
 returns c = ◌∙◌ {b = spread (scaled alpha_row) 8} refl (spread_is (scaled alpha_row) (scaled_linear alpha_row) 8)
-
-pub alpha_table_spec : {M : Type 1} → statement M
-alpha_table_spec = tie.close (tie.spec returns)
