@@ -1,7 +1,6 @@
 // RFC 4180 text: what a reading of it answers, and the part of a text where a field stands. The grammar itself is in specs/.
 #![tactic(auto)]
 
-
 // The counts of rows and columns, or the number of the refusal and its place.
 #[derive(Clone, Copy)]
 pub enum Answer {
