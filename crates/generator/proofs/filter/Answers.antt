@@ -5,4 +5,4 @@ use Rattle.generator.proofs.filter.Goals as goal
 
 pub returns : goal.returns
 unfolding F
-returns c = rw c.wrapping_add_u64.ensures
+returns c = rw c.wrapping_add_u64.ensures.value

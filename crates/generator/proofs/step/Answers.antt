@@ -5,4 +5,4 @@ use Rattle.generator.proofs.step.Goals as goal
 
 pub returns : goal.returns
 unfolding next_with
-returns c = simp (c.keystream_word-word.ensures, c.wrapping_add_u64-r1.ensures, c.substitute-r2.ensures, c.shift_in-cells.ensures, c.new_s15-last.ensures)
+returns c = simp (c.keystream_word-word.ensures, c.wrapping_add_u64-r1.ensures.value, c.substitute-r2.ensures, c.shift_in-cells.ensures, c.new_s15-last.ensures)
