@@ -7,12 +7,8 @@ use Rattle.matrix.specs.Matrix.{matrix_row}
 use Rattle.sboxes.proofs.ThroughLaws.{sent_lt}
 use Rattle.sboxes.proofs.SboxLaws.{sbox_laws}
 use Rattle.substitution.proofs.ColumnLaws.{spread_tables, spread_tables_lem}
-use Rattle.columns.proofs.substitution_tables.Statement.{statement}
-use Rattle.columns.proofs.substitution_tables.Tie as tie
+use Rattle.columns.proofs.substitution_tables.Goals as goal
 
-returns : tie.Need-returns
+pub returns : goal.returns
 unfolding gmul
 returns c = ◌∙◌ {b = spread_tables matrix_row (sent pi)} refl (spread_tables_lem matrix_row tt (sent pi) (sent_lt pi_inverse pi sbox_laws.inverse_pi))
-
-pub substitution_tables_spec : {M : Type 1} → statement M
-substitution_tables_spec = tie.close (tie.spec returns)

@@ -4,12 +4,8 @@ use mathlib.Core.Path.{refl, ◌∙◌}
 use Rattle.galois.specs.Field.{gmul}
 use Rattle.matrix.specs.Matrix.{matrix_inverse_row}
 use Rattle.substitution.proofs.ColumnLaws.{spread_tables, spread_tables_lem}
-use Rattle.columns.proofs.matrix_inverse_tables.Statement.{statement}
-use Rattle.columns.proofs.matrix_inverse_tables.Tie as tie
+use Rattle.columns.proofs.matrix_inverse_tables.Goals as goal
 
-returns : tie.Need-returns
+pub returns : goal.returns
 unfolding gmul
 returns c = ◌∙◌ {b = spread_tables matrix_inverse_row (λ j c. c)} refl (spread_tables_lem matrix_inverse_row tt (λ j c. c) (λ j c h. h))
-
-pub matrix_inverse_tables_spec : {M : Type 1} → statement M
-matrix_inverse_tables_spec = tie.close (tie.spec returns)
