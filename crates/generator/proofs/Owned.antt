@@ -1,6 +1,5 @@
 -- What every state that a program holds has: sixteen cells and two registers that are words.
-use Rattle.std.proofs.Common.{ℕ, zero, suc, ◌^◌, ◌<◌, List, [], ◌∷◌, map, sym, ◌∙◌, lit<}
-use lib.ListN.{length-map}
+use Rattle.std.proofs.Common.{ℕ, zero, suc, ◌^◌, ◌<◌, List, [], ◌∷◌, lit<}
 use mir.Val.{Val}
 use denote.Laws.{Is}
 use denote.Shadow.{shadow}

@@ -1,6 +1,5 @@
 -- `generator::filter` meets its contract: F.
 use Rattle.generator.specs.Registers.{F}
-use Rattle.std.proofs.Common.{rules}
 use Rattle.generator.proofs.filter.Goals as goal
 
 pub returns : goal.returns

@@ -1,6 +1,5 @@
 -- `generator::step` meets its contract: the parts of a step together.
 use Rattle.generator.specs.Registers.{next_with}
-use Rattle.std.proofs.Common.{rules}
 use Rattle.generator.proofs.step.Goals as goal
 
 pub returns : goal.returns
