@@ -2,6 +2,8 @@
 use mathlib.Core.Path.{◌≡◌, sym, ap, ◌∙◌}
 use borrow.Author.Rules.{rules}
 use lib.ListN.{length}
+use Rattle.generator.specs.declared.Kind.TheVariants.{Ordinary}
+use Rattle.generator.specs.Functions.{next_in}
 use Rattle.refusals.specs.Numbers.{accepted}
 use Rattle.refusals.specs.Tests.{returned}
 use Rattle.applying.specs.Applying.{applying_tests}
@@ -19,16 +21,16 @@ copy-requires c = let a = c.args in target_length a.s a.source.now a.target.now 
 
 pub slice_bounds-advance-end : goal.slice_bounds-advance-end
 slice_bounds-advance-end c = let a = c.args in
-    copied_length a.s a.source.now a.target.now ((sym c.advancing_number-number.ensures ∙ c.if-number-ne-ACCEPTED.false)) c.copy.ensures.1
+    copied_length a.s a.source.now a.target.now ((sym c.advancing_number-number.ensures ∙ c.if-number-ne-ACCEPTED.false)) c.copy.ensures
 
 pub slice_bounds-advance-end-2 : goal.slice_bounds-advance-end-2
 slice_bounds-advance-end-2 c = let a = c.args in
-    sym (ap length (front a.s a.source.now a.target.now ((sym c.advancing_number-number.ensures ∙ c.if-number-ne-ACCEPTED.false)) c.copy.ensures.1))
+    sym (ap length (front a.s a.source.now a.target.now ((sym c.advancing_number-number.ensures ∙ c.if-number-ne-ACCEPTED.false)) c.copy.ensures))
 
 pub advance-t-requires : goal.advance-t-requires
 advance-t-requires c = let a = c.args in
-    portion_room a.s a.source.now a.target.now ((sym c.advancing_number-number.ensures ∙ c.if-number-ne-ACCEPTED.false)) c.copy.ensures.1
+    portion_room a.s a.source.now a.target.now ((sym c.advancing_number-number.ensures ∙ c.if-number-ne-ACCEPTED.false)) c.copy.ensures
 
 pub returns : goal.returns
 returns c = let r = let a = c.args in
-    portion_accepted a.s a.source.now a.target.now ((sym c.advancing_number-number.ensures ∙ c.if-number-ne-ACCEPTED.false)) c.copy.ensures.1 _ c.advance-t.ensures.value c.advance-t.ensures.buffer_after in record { value = r.0; target_after = r.1 }
+    portion_accepted a.s a.source.now a.target.now ((sym c.advancing_number-number.ensures ∙ c.if-number-ne-ACCEPTED.false)) c.copy.ensures (next_in a.tables.now Ordinary) c.advance-t.ensures.value c.advance-t.ensures.buffer_after in record { value = r.0; target_after = r.1 }

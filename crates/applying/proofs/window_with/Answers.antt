@@ -4,6 +4,8 @@ use mathlib.Core.Bool.{Bool}
 use native.Mathlib.Omega.{arith}
 use borrow.Author.Rules.{rules}
 use lib.ListN.{length}
+use Rattle.generator.specs.declared.Kind.TheVariants.{Ordinary}
+use Rattle.generator.specs.Functions.{next_in}
 use Rattle.refusals.specs.Numbers.{accepted, refused_window_past_end}
 use Rattle.refusals.specs.Tests.{returned}
 use Rattle.applying.specs.Applying.{advancing_tests, window_tests}
@@ -40,4 +42,4 @@ advance-t-requires c = let a = c.args in window_room a.s a.buffer.now a.start a.
 pub returns : goal.returns
 returns c = let r = let a = c.args in
     window_accepted a.s a.buffer.now a.start a.count ((sym ((let a = c.args in
-    c.advancing_number-number.ensures ∙ ap (λ (b : Bool). returned (advancing_tests a.s (record { number = refused_window_past_end; applies = b }) a.count)) c.past_end-past.ensures)) ∙ c.if-number-ne-ACCEPTED.false)) _ c.advance-t.ensures.value c.advance-t.ensures.buffer_after in record { value = r.0; buffer_after = r.1 }
+    c.advancing_number-number.ensures ∙ ap (λ (b : Bool). returned (advancing_tests a.s (record { number = refused_window_past_end; applies = b }) a.count)) c.past_end-past.ensures)) ∙ c.if-number-ne-ACCEPTED.false)) (next_in a.tables.now Ordinary) c.advance-t.ensures.value c.advance-t.ensures.buffer_after in record { value = r.0; buffer_after = r.1 }
