@@ -10,52 +10,37 @@ returns-then-part-n-ne34 c = no_closing_quote c.args.part.now c.requires.0 c.req
 pub loop-i-init : goal.loop-i-init
 loop-i-init c = (refl, omega arith, omega arith)
 
-pub inside_run-e-requires : goal.inside_run-e-requires
-inside_run-e-requires c = (c.loop-i-test.true, c.if-part-n-ne34.false)
-
-pub overflow_sub-k : goal.overflow_sub-k
-overflow_sub-k c = c.inside_run-e.ensures.after
-
 pub overflow_add-k : goal.overflow_add-k
-overflow_add-k c = let w = c.inside_run-e.ensures in let v = c.loop-i.invariant in omega (arith, w.after, w.within, v.2)
-
-pub bounds-part-e : goal.bounds-part-e
-bounds-part-e c = c.inside_run-e.ensures.within
+overflow_add-k c =
+    let w = c.inside_run-e.ensures in
+    let v = c.loop-i.invariant in
+    omega (arith, w.after, w.within, v.2)
 
 pub returns-then-part-e-ne34 : goal.returns-then-part-e-ne34
-returns-then-part-e-ne34 c = let g = c.requires in
+returns-then-part-e-ne34 c =
+    let g = c.requires in
     breaks_off _ g.0 g.1 _ _ c.loop-i.invariant.0 c.inside_run-e.ensures c.no_field-then-part-e-ne34.ensures c.if-part-e-ne34.true
 
-pub overflow_add-j : goal.overflow_add-j
-overflow_add-j c = let w = c.inside_run-e.ensures.within in omega arith
-
 pub returns-then-n-j : goal.returns-then-n-j
-returns-then-n-j c = let g = c.requires in
+returns-then-n-j c =
+    let g = c.requires in
     closes _ g.0 g.1 _ _ c.loop-i.invariant.0 c.inside_run-e.ensures c.if-part-e-ne34.false _ c.loop-i.invariant.1 c.if-n-j.true
 
-pub bounds-part-j : goal.bounds-part-j
-bounds-part-j c = c.if-n-j.false
-
 pub returns-then-part-j-ne34 : goal.returns-then-part-j-ne34
-returns-then-part-j-ne34 c = let g = c.requires in
+returns-then-part-j-ne34 c =
+    let g = c.requires in
     text_after _ g.0 g.1 _ _ c.loop-i.invariant.0 c.inside_run-e.ensures c.if-part-e-ne34.false c.if-n-j.false c.no_field-then-part-j-ne34.ensures c.if-part-j-ne34.true
 
 -- the counts fit
 pub overflow_add-k-in-loop-i : goal.overflow_add-k-in-loop-i
-overflow_add-k-in-loop-i c = let w = c.inside_run-e.ensures in
+overflow_add-k-in-loop-i c =
+    let w = c.inside_run-e.ensures in
     let v = c.loop-i.invariant in
     omega (arith, w.after, w.within, v.2)
 
-pub overflow_add-i : goal.overflow_add-i
-overflow_add-i c = let f = c.if-n-j.false in omega arith
-
-pub loop-i-smaller : goal.loop-i-smaller
-loop-i-smaller c = let w = c.inside_run-e.ensures in
-    let f = c.if-n-j.false in
-    omega (arith, w.after)
-
 pub loop-i-preserved : goal.loop-i-preserved
-loop-i-preserved c = let w = c.inside_run-e.ensures in
+loop-i-preserved c =
+    let w = c.inside_run-e.ensures in
     let v = c.loop-i.invariant in
     let g = c.requires in (
       goes_on _ g.0 g.1 _ _ v.0 w c.if-part-e-ne34.false c.if-n-j.false c.if-part-j-ne34.false,
@@ -64,5 +49,6 @@ loop-i-preserved c = let w = c.inside_run-e.ensures in
     )
 
 pub returns : goal.returns
-returns c = let g = c.requires in
+returns c =
+    let g = c.requires in
     never_closed _ g.0 g.1 _ c.no_field-2.ensures c.loop-i.invariant.0 c.loop-i-test.false

@@ -9,36 +9,26 @@ use Rattle.csv_contents.proofs.write_quoted.Goals as goal
 pub loop-i-init : goal.loop-i-init
 loop-i-init c = (filled_none _ c.args.target.now c.requires.1, refl)
 
-pub quote_from-q-requires : goal.quote_from-q-requires
-quote_from-q-requires c = (c.loop-i-test.true, c.requires.0)
-
-pub run_stop-k-requires : goal.run_stop-k-requires
-run_stop-k-requires c = c.quote_from-q.ensures.within
-
 pub write_run-requires : goal.write_run-requires
-write_run-requires c = let l = c.loop-i in
+write_run-requires c =
+    let l = c.loop-i in
     let t = turn c.args.part.now l.i c.quote_from-q.result c.run_stop-k.result l.o c.quote_from-q.ensures c.run_stop-k.ensures l.invariant.0 l.invariant.1 in
     (t.0, t.1, t.2)
 
 pub overflow_sub-o : goal.overflow_sub-o
-overflow_sub-o c = let l = c.loop-i in
+overflow_sub-o c =
+    let l = c.loop-i in
     (turn c.args.part.now l.i c.quote_from-q.result c.run_stop-k.result l.o c.quote_from-q.ensures c.run_stop-k.ensures l.invariant.0 l.invariant.1).0
 
 pub overflow_add-o : goal.overflow_add-o
-overflow_add-o c = let l = c.loop-i in
+overflow_add-o c =
+    let l = c.loop-i in
     let t = turn c.args.part.now l.i c.quote_from-q.result c.run_stop-k.result l.o c.quote_from-q.ensures c.run_stop-k.ensures l.invariant.0 l.invariant.1 in
     omega (arith, t.2)
 
-pub overflow_add-i : goal.overflow_add-i
-overflow_add-i c = let w = c.quote_from-q.ensures.within in omega arith
-
-pub loop-i-smaller : goal.loop-i-smaller
-loop-i-smaller c = let w = c.quote_from-q.ensures in
-    let i = c.loop-i-test.true in
-    omega (arith, w.after)
-
 pub loop-i-preserved : goal.loop-i-preserved
-loop-i-preserved c = let l = c.loop-i in
+loop-i-preserved c =
+    let l = c.loop-i in
     let t = turn c.args.part.now l.i c.quote_from-q.result c.run_stop-k.result l.o c.quote_from-q.ensures c.run_stop-k.ensures l.invariant.0 l.invariant.1 in
     (as_written c.write_run.ensures t.3, t.4)
 
@@ -46,5 +36,6 @@ pub shape_of-target : goal.shape_of-target
 shape_of-target c = filled_length c.loop-i.invariant.0
 
 pub returns : goal.returns
-returns c = let l = c.loop-i in
+returns c =
+    let l = c.loop-i in
     filled_end l.invariant.0 (l.invariant.1 ∙ unquoted_last _ l.i (omega arith))

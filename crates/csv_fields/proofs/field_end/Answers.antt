@@ -10,7 +10,8 @@ use Rattle.csv_fields.proofs.field_end.Goals as goal
 use Rattle.csv_fields.proofs.field_end.Goals.{then-from-text+else-text-from-eq34, else-from-text}
 
 pub returns-then-text-from-eq34 : goal.returns-then-text-from-eq34
-returns-then-text-from-eq34 c = let g = c.args in
+returns-then-text-from-eq34 c =
+    let g = c.args in
     c.quoted_end.ensures ∙ sym (quote_opens g.text.now g.from (omega arith) c.if-text-from-eq34.true)
 
 pub returns : goal.returns

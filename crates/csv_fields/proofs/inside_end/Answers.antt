@@ -8,7 +8,8 @@ pub loop-i-init : goal.loop-i-init
 loop-i-init c = (refl, omega arith)
 
 pub returns-then-not-is_inside : goal.returns-then-not-is_inside
-returns-then-not-is_inside c = let l = c.loop-i.invariant in
+returns-then-not-is_inside c =
+    let l = c.loop-i.invariant in
     record { same = l.0; after = l.1; ends = λ h. sym c.is_inside.ensures ∙ c.if-not-is_inside.true }
 
 pub loop-i-preserved : goal.loop-i-preserved

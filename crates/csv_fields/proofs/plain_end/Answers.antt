@@ -6,11 +6,9 @@ use lib.Dec.{ltb}
 use lib.ListN.{length}
 use Rattle.csv_fields.proofs.plain_end.Goals as goal
 
-pub run_end-requires : goal.run_end-requires
-run_end-requires c = (c.if-from-text.true, c.if-text-lt32.true)
-
 pub returns-then-text-lt32 : goal.returns-then-text-lt32
-returns-then-text-lt32 c = let g = c.args in
+returns-then-text-lt32 c =
+    let g = c.args in
     let r = c.run_end.ensures in
     λ j. record { at = r.0 j; within = sym (ap (λ (e : ℕ). ltb e (length g.text.now)) (sym r.0) ∙ lt-ltb _ _ r.1) j }
 

@@ -16,21 +16,25 @@ pub step-p-requires : goal.step-p-requires
 step-p-requires c = let v = c.loop-p.invariant in omega (arith, v.1, v.2, v.3)
 
 pub returns-then-p : goal.returns-then-p
-returns-then-p c = let g = c.args in
-    let t = subst (λ (x : Bool). ContinuesBy x g.text.now c.loop-p.c c.loop-p.i c.step-p.result) c.if-p.true ((let v = c.loop-p.invariant in
-    let g = c.args in
-    subst⁻¹ (Continues g.text.now c.loop-p.c c.loop-p.i) c.step-p.ensures (continues g.text.now c.loop-p.c c.loop-p.i v.1 v.2 v.3))) in
-    subst (Reads g.text.now) (c.loop-p.invariant.0 ∙ (t ∙ sym c.answer_of.ensures)) (reads g.text.now)
+returns-then-p c =
+    let t = c.args.text.now in
+    let v = c.loop-p.invariant in
+    let came = subst⁻¹ (Continues t c.loop-p.c c.loop-p.i) c.step-p.ensures (continues t c.loop-p.c c.loop-p.i v.1 v.2 v.3) in
+    let s = subst (λ (x : Bool). ContinuesBy x t c.loop-p.c c.loop-p.i c.step-p.result) c.if-p.true came in
+    subst (Reads t) (v.0 ∙ (s ∙ sym c.answer_of.ensures)) (reads t)
 
 pub loop-p-smaller : goal.loop-p-smaller
-loop-p-smaller c = let t = subst (λ (x : Bool). ContinuesBy x c.args.text.now c.loop-p.c c.loop-p.i c.step-p.result) c.if-p.false ((let v = c.loop-p.invariant in
-    let g = c.args in
-    subst⁻¹ (Continues g.text.now c.loop-p.c c.loop-p.i) c.step-p.ensures (continues g.text.now c.loop-p.c c.loop-p.i v.1 v.2 v.3))) in
+loop-p-smaller c =
+    let t = c.args.text.now in
     let v = c.loop-p.invariant in
-    omega (arith, t.1, t.2, v.1)
+    let came = subst⁻¹ (Continues t c.loop-p.c c.loop-p.i) c.step-p.ensures (continues t c.loop-p.c c.loop-p.i v.1 v.2 v.3) in
+    let s = subst (λ (x : Bool). ContinuesBy x t c.loop-p.c c.loop-p.i c.step-p.result) c.if-p.false came in
+    omega (arith, s.1, s.2, v.1)
 
 pub loop-p-preserved : goal.loop-p-preserved
-loop-p-preserved c = let t = subst (λ (x : Bool). ContinuesBy x c.args.text.now c.loop-p.c c.loop-p.i c.step-p.result) c.if-p.false ((let v = c.loop-p.invariant in
-    let g = c.args in
-    subst⁻¹ (Continues g.text.now c.loop-p.c c.loop-p.i) c.step-p.ensures (continues g.text.now c.loop-p.c c.loop-p.i v.1 v.2 v.3))) in
-    (c.loop-p.invariant.0 ∙ t.0, t.2, t.3, t.4)
+loop-p-preserved c =
+    let t = c.args.text.now in
+    let v = c.loop-p.invariant in
+    let came = subst⁻¹ (Continues t c.loop-p.c c.loop-p.i) c.step-p.ensures (continues t c.loop-p.c c.loop-p.i v.1 v.2 v.3) in
+    let s = subst (λ (x : Bool). ContinuesBy x t c.loop-p.c c.loop-p.i c.step-p.result) c.if-p.false came in
+    (v.0 ∙ s.0, s.2, s.3, s.4)
