@@ -22,7 +22,7 @@ returns-then-number-ne-ACCEPTED c = let a = c.args in
       value = c.refused.ensures ∙ left.0;
       target_after = left.1;
       checks_exactly = (let a = c.args in
-          checks_exactly a.s a.iv.now a.target.now (owned_words a.s c.well_formed.0) (owned_bytes a.iv.now c.shared_slice_known-1.given));
+          checks_exactly a.s a.iv.now a.target.now (owned_words a.s c.well_formed.0) (owned_bytes a.iv.now (λ j. search rules)));
     }
 
 pub slice_bounds-key-end : goal.slice_bounds-key-end
@@ -49,12 +49,12 @@ pub copy-requires : goal.copy-requires
 copy-requires c = omega (arith, front_length ((record { passed = (sym c.checking_number-number.ensures ∙ c.if-number-ne-ACCEPTED.false); walked_back = c.walk_to_loading-t.ensures; recovered = c.recover_key.ensures })))
 
 pub returns-then-leads : goal.returns-then-leads
-returns-then-leads c = let left = check_accepts ((record { passed = (sym c.checking_number-number.ensures ∙ c.if-number-ne-ACCEPTED.false); walked_back = c.walk_to_loading-t.ensures; recovered = c.recover_key.ensures })) c.leads.ensures c.if-leads.true c.copy.ensures.1 in
+returns-then-leads c = let left = check_accepts ((record { passed = (sym c.checking_number-number.ensures ∙ c.if-number-ne-ACCEPTED.false); walked_back = c.walk_to_loading-t.ensures; recovered = c.recover_key.ensures })) c.leads.ensures c.if-leads.true c.copy.ensures in
     record {
       value = left.0;
       target_after = left.1;
       checks_exactly = (let a = c.args in
-          checks_exactly a.s a.iv.now a.target.now (owned_words a.s c.well_formed.0) (owned_bytes a.iv.now c.shared_slice_known-1.given));
+          checks_exactly a.s a.iv.now a.target.now (owned_words a.s c.well_formed.0) (owned_bytes a.iv.now (λ j. search rules)));
     }
 
 pub returns : goal.returns
@@ -64,5 +64,5 @@ returns c = let ten : c.refused-2.result ≡ record { number = refused_no_key_le
       value = ten ∙ left.0;
       target_after = left.1;
       checks_exactly = (let a = c.args in
-          checks_exactly a.s a.iv.now a.target.now (owned_words a.s c.well_formed.0) (owned_bytes a.iv.now c.shared_slice_known-1.given));
+          checks_exactly a.s a.iv.now a.target.now (owned_words a.s c.well_formed.0) (owned_bytes a.iv.now (λ j. search rules)));
     }
