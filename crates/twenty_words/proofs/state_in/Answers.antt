@@ -6,4 +6,4 @@ use borrow.Author.Rules.{rules}
 use Rattle.twenty_words.proofs.state_in.Goals as goal
 
 pub returns : goal.returns
-returns c = let read = state_read c.args.words (search rules) in record { value = read; result_value = ap words_of read ∙ twenty_words_laws.words_of_state_in c.args.words (search rules) }
+returns c = let read = state_read c.args.words (search rules) in record { value = read; words_back = ap words_of read ∙ twenty_words_laws.words_of_state_in c.args.words (search rules) }
