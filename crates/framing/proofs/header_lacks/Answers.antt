@@ -1,6 +1,5 @@
 -- `framing::header_lacks` meets its contract: no header yet, one that lacks bytes, and one that lacks none.
 use native.Mathlib.Omega.{arith}
-use borrow.Author.Rules.{rules}
 use Rattle.framing.proofs.Header.{lacks_first, lacks_rest}
 use Rattle.framing.proofs.header_lacks.Goals as goal
 

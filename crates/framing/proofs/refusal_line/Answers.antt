@@ -1,7 +1,7 @@
 -- `framing::refusal_line` meets its contract: the first eight bytes are copied to the array, the digits behind them, and a line feed is set behind these.
 use mathlib.Core.Path.{◌≡◌, ap}
 use mathlib.Core.List.{List, ◌++◌}
-use Prim.Native.Nat.{ℕ, ◌≤◌}
+use Prim.Native.Nat.{ℕ}
 use native.Mathlib.Omega.{arith}
 use borrow.Author.Rules.{rules}
 use lib.ListN.{length, take, drop}
