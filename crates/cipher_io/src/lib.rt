@@ -174,10 +174,7 @@ fn report(stop: u64) {
         );
     }
     if stop == stops::WRITING_FAILED {
-        io::write_all(
-            STDERR,
-            b"cipher: writing failed, the output is not whole\n",
-        );
+        io::write_all(STDERR, b"cipher: writing failed, the output is not whole\n");
     }
     if stop == stops::INPUT_LEFT_OVER {
         io::write_all(

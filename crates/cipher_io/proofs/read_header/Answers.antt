@@ -1,9 +1,8 @@
 -- `cipher_io::read_header` meets its contract, and ends: each read but the last brings bytes, and no header is longer than the longest.
 use mathlib.Core.Path.{refl}
-use Prim.Native.Nat.{◌+◌, ◌≤◌}
 use native.Mathlib.Omega.{arith}
 use borrow.Author.Tests.{ltb-false}
-use Rattle.cipher_io.proofs.Headers.{Begun, still_long, fits, read_on, all_read, read_less}
+use Rattle.cipher_io.proofs.Headers.{still_long, fits, read_on, all_read, read_less}
 use Rattle.cipher_io.proofs.Pieces.{front_length}
 use Rattle.cipher_io.proofs.read_header.Goals as goal
 
