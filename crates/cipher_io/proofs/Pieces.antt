@@ -63,15 +63,15 @@ module _ (s : State) (piece : List ℕ) (e : (windowed s piece 0 (length piece))
 
 -- ---- piece after piece
 
-after_one_more : (s : State) (pieces : List (List ℕ)) (piece : List ℕ)
-    → after_pieces s (pieces ++ (piece ∷ [])) ≡ (windowed (after_pieces s pieces) piece 0 (length piece)).state
-after_one_more s [] piece = refl
-after_one_more s (first ∷ pieces) piece = after_one_more (windowed s first 0 (length first)).state pieces piece
+after_one_more : (s : State) (pieces : List (List ℕ)) (last : List ℕ)
+    → after_pieces s (pieces ++ (last ∷ [])) ≡ (windowed (after_pieces s pieces) last 0 (length last)).state
+after_one_more s [] last = refl
+after_one_more s (first ∷ pieces) last = after_one_more (windowed s first 0 (length first)).state pieces last
 
-length_one_more : (pieces : List (List ℕ)) (piece : List ℕ) → length (joined (pieces ++ (piece ∷ []))) ≡ length (joined pieces) + length piece
-length_one_more [] piece = length-append piece [] ∙ omega arith
-length_one_more (first ∷ pieces) piece =
-    omega (arith, length-append first (joined (pieces ++ (piece ∷ []))), length_one_more pieces piece, length-append first (joined pieces))
+length_one_more : (pieces : List (List ℕ)) (last : List ℕ) → length (joined (pieces ++ (last ∷ []))) ≡ length (joined pieces) + length last
+length_one_more [] last = length-append last [] ∙ omega arith
+length_one_more (first ∷ pieces) last =
+    omega (arith, length-append first (joined (pieces ++ (last ∷ []))), length_one_more pieces last, length-append first (joined pieces))
 
 -- so far: the pieces that led from s to t; while the program goes on every byte of them has moved the position on
 pub record SoFar (s t : State) (stop : ℕ) : Type 0 where

@@ -14,8 +14,13 @@ use answers::{Answer, LIMIT};
 use applying::window;
 use framing::{LONGEST_HEADER, header_lacks, refusal_line, room, start};
 use generator::State;
-use libc::{STDERR_FILENO, STDIN_FILENO, STDOUT_FILENO};
 use refusals::numbers;
+use std::io::{Read, Stdin};
+
+// Standard output and standard error.
+const STDOUT: i32 = 1;
+
+const STDERR: i32 = 2;
 
 // How many bytes were read, and why no more were.
 #[derive(Clone, Copy)]
@@ -25,26 +30,22 @@ struct Got {
 }
 
 // Reads once, as many bytes as come.
-fn read_once(buffer: &mut [u8]) -> Got
+fn read_once(mut input: Stdin, buffer: &mut [u8]) -> Got
     ensures { ReadOnce buffer.new result.count result.stop }
 {
-    let got = libc::read(STDIN_FILENO, buffer);
-    let n = io::count(got, buffer);
-    if n > 0 {
-        return Got {
+    match input.read(buffer) {
+        Ok(0) => Got {
+            count: 0,
+            stop: stops::INPUT_ENDED,
+        },
+        Ok(n) => Got {
             count: n,
             stop: stops::GOING_ON,
-        };
-    }
-    if got < 0 {
-        return Got {
+        },
+        Err(_) => Got {
             count: 0,
             stop: stops::READING_FAILED,
-        };
-    }
-    Got {
-        count: 0,
-        stop: stops::INPUT_ENDED,
+        },
     }
 }
 
@@ -57,7 +58,7 @@ struct Header {
 }
 
 // Reads the header, as much of it as there is.
-fn read_header() -> Header
+fn read_header(input: Stdin) -> Header
     ensures { HeaderRead result.bytes result.count result.stop }
 {
     let mut bytes: [u8; 288] = [0; LONGEST_HEADER];
@@ -66,7 +67,7 @@ fn read_header() -> Header
     let mut stop = stops::GOING_ON;
     while stop == stops::GOING_ON && lack > 0 {
         let end = count + lack;
-        let got = read_once(&mut bytes[count..end]);
+        let got = read_once(input, &mut bytes[count..end]);
         stop = got.stop;
         count += got.count;
         lack = header_lacks(&bytes[..count]);
@@ -81,7 +82,7 @@ fn write_refusal(number: u64) -> u64
     let line = refusal_line(number);
     let bytes = line.bytes;
     let n = line.count;
-    if io::write_all(STDOUT_FILENO, &bytes[..n]) {
+    if io::write_all(STDOUT, &bytes[..n]) {
         stops::GOING_ON
     } else {
         stops::WRITING_FAILED
@@ -104,7 +105,7 @@ fn write_piece(s: State, piece: &mut [u8]) -> Turn
     let n = piece.len();
     let answer = window(s, piece, 0, n);
     let t = answer.state;
-    if answer.number == numbers::ACCEPTED && io::write_all(STDOUT_FILENO, piece) {
+    if answer.number == numbers::ACCEPTED && io::write_all(STDOUT, piece) {
         return Turn {
             state: t,
             stop: stops::GOING_ON,
@@ -117,11 +118,11 @@ fn write_piece(s: State, piece: &mut [u8]) -> Turn
 }
 
 // Reads a piece to the front of the buffer, no further than the last position, and writes it with the keystream applied.
-fn pass_piece(s: State, buffer: &mut [u8]) -> Turn
+fn pass_piece(input: Stdin, s: State, buffer: &mut [u8]) -> Turn
     ensures { PiecePassed s (length buffer.old) buffer.new result.state result.stop }
 {
     let most = room(s, buffer.len());
-    let got = read_once(&mut buffer[..most]);
+    let got = read_once(input, &mut buffer[..most]);
     let n = got.count;
     let turn = write_piece(s, &mut buffer[..n]);
     let t = turn.state;
@@ -135,14 +136,14 @@ fn pass_piece(s: State, buffer: &mut [u8]) -> Turn
 }
 
 // Piece after piece, to the end of the input, the last position, or a read or write that fails.
-fn pass_data(s: State) -> Turn
+fn pass_data(input: Stdin, s: State) -> Turn
     ensures { DataPassed s result.state result.stop }
 {
     let mut buffer = io::large_buffer();
     let mut state = s;
     let mut stop = stops::GOING_ON;
     while stop == stops::GOING_ON {
-        let turn = pass_piece(state, &mut buffer);
+        let turn = pass_piece(input, state, &mut buffer);
         state = turn.state;
         stop = turn.stop;
     }
@@ -150,14 +151,14 @@ fn pass_data(s: State) -> Turn
 }
 
 // Why the program stops where the data end: at the last position there may be more input, which one more byte shows.
-fn last_stop(position: u64, stop: u64) -> u64
+fn last_stop(input: Stdin, position: u64, stop: u64) -> u64
     ensures { position < limit → result ≡ stop }
 {
     if position < LIMIT || stop != stops::INPUT_ENDED {
         return stop;
     }
     let mut one = [0u8; 1];
-    let got = read_once(&mut one);
+    let got = read_once(input, &mut one);
     if got.stop == stops::GOING_ON {
         return stops::INPUT_LEFT_OVER;
     }
@@ -168,29 +169,27 @@ fn last_stop(position: u64, stop: u64) -> u64
 fn report(stop: u64) {
     if stop == stops::READING_FAILED {
         io::write_all(
-            STDERR_FILENO,
+            STDERR,
             b"cipher: reading failed, the output may not be whole\n",
         );
     }
     if stop == stops::WRITING_FAILED {
-        io::write_all(
-            STDERR_FILENO,
-            b"cipher: writing failed, the output is not whole\n",
-        );
+        io::write_all(STDERR, b"cipher: writing failed, the output is not whole\n");
     }
     if stop == stops::INPUT_LEFT_OVER {
         io::write_all(
-            STDERR_FILENO,
+            STDERR,
             b"cipher: stopped after 16777216 bytes of data, there was more\n",
         );
     }
 }
 
 // The whole program.
-pub fn run() -> Answer
+pub fn run(rt: &HostRuntime) -> Answer
     ensures { Ran result }
 {
-    let header = read_header();
+    let input = rt.stdin();
+    let header = read_header(input);
     report(header.stop);
     let bytes = header.bytes;
     let n = header.count;
@@ -200,9 +199,9 @@ pub fn run() -> Answer
         return answer;
     }
     let s = answer.state;
-    let end = pass_data(s);
+    let end = pass_data(input, s);
     let t = end.state;
-    report(last_stop(t.position, end.stop));
+    report(last_stop(input, t.position, end.stop));
     Answer {
         number: numbers::ACCEPTED,
         state: t,

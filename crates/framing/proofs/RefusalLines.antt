@@ -5,7 +5,7 @@ use Prim.Native.Nat.{ℕ, suc, ◌+◌, ◌-◌, ◌^◌, ◌<◌, ◌≤◌}
 use native.Mathlib.Omega.{arith}
 use borrow.Rule.Slice.PartMut.{mid_of, put_mid}
 use lib.ListN.{length, take, drop, set, length-append, drop_of_length-le}
-use lib.Seq.{length-take-le, take-length, drop-cons, drop-drop, set_at, take_at}
+use lib.Seq.{length-take-le, drop-cons, drop-drop, set_at, take_at}
 use Rattle.io.specs.Counts.{IsPrefixLen}
 use Rattle.io.specs.Digits.{last_digits, IsDigitCount}
 use Rattle.text.specs.Text.{ascii, decimal}
@@ -43,10 +43,10 @@ module _ (number k : ℕ) (h : number < 2 ^ 64) (fewest : IsDigitCount 10 1 numb
     line_length = let same = ap length is_decimal in omega (arith, length-append (decimal number) (ascii "\n"), same, long)
 
     -- the part of the array that they are copied to
-    copied : {mid : List ℕ} → mid ≡ take (length ds) ds ++ drop (length ds) (mid_of 8 (8 + k - 8) begun) → mid ≡ ds
+    copied : {mid : List ℕ} → mid ≡ ds ++ drop (length ds) (mid_of 8 (8 + k - 8) begun) → mid ≡ ds
     copied e =
         let short : length (mid_of 8 (8 + k - 8) begun) ≤ length ds = omega (arith, length-take-le (8 + k - 8) (zeros 21) (omega (arith, few)), long) in
-        e ∙ ap₂ ◌++◌ (take-length ds) (drop_of_length-le (mid_of 8 (8 + k - 8) begun) {i = length ds} short) ∙ append-nil ds
+        e ∙ ap (λ (l : List ℕ). ds ++ l) (drop_of_length-le (mid_of 8 (8 + k - 8) begun) {i = length ds} short) ∙ append-nil ds
 
     rest : drop (suc k) (zeros 21) ≡ drop (length (refusal_line number)) (zeros 29)
     rest = let whole : 8 + suc k ≡ length (refusal_line number) = omega (arith, line_length) in drop-drop (suc k) 8 (zeros 29) ∙ ap (λ (n : ℕ). drop n (zeros 29)) whole
@@ -59,14 +59,14 @@ module _ (number k : ℕ) (h : number < 2 ^ 64) (fewest : IsDigitCount 10 1 numb
         ∙ ap₂ (λ (l m : List ℕ). (ascii "refused " ++ (l ++ ascii "\n")) ++ m) is_decimal rest
 
     -- the array, once its first eight bytes are written, and then these
-    module _ {array mid : List ℕ} (first : array ≡ begun) (e : mid ≡ take (length ds) ds ++ drop (length ds) (mid_of 8 (8 + k - 8) array)) where
+    module _ {array mid : List ℕ} (first : array ≡ begun) (e : mid ≡ ds ++ drop (length ds) (mid_of 8 (8 + k - 8) array)) where
       abbrev left : RefusalLine
       left = record { bytes = set (put_mid 8 (8 + k - 8) array mid) (8 + k) 10; count = 8 + k + 1 }
 
       is_line : left ≡ in_front (refusal_line number)
       is_line =
           let part : 8 + k - 8 ≡ k = omega arith in
-          let held : mid ≡ ds = copied (e ∙ ap (λ (l : List ℕ). take (length ds) ds ++ drop (length ds) (mid_of 8 (8 + k - 8) l)) first) in
+          let held : mid ≡ ds = copied (e ∙ ap (λ (l : List ℕ). ds ++ drop (length ds) (mid_of 8 (8 + k - 8) l)) first) in
           ap₂ (λ (l : List ℕ) (n : ℕ). record { bytes = l; count = n })
           (
           ap (λ (l : List ℕ). set (put_mid 8 (8 + k - 8) l mid) (8 + k) 10) first

@@ -1,4 +1,4 @@
--- What is proved of the cipher program's input: proofs/FramingLaws.antt has `framing-laws : FramingLaws`.
+-- What is proved of the cipher program's input: proofs/FramingLaws.antt has `framing_laws : FramingLaws`.
 use Rattle.std.specs.Prelude.{◌≡◌, ◌⊎◌, List, [], ◌∷◌, ◌++◌, ℕ, ◌+◌, ◌<◌, ◌≤◌, length, take}
 use Rattle.text.specs.Text.{ascii}
 use Rattle.galois.specs.Words.{at}

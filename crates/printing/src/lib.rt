@@ -2,20 +2,21 @@
 // could write, so there is nothing that a contract could say: what is printed is compared by the gate.
 #![tactic(auto)]
 
-use libc::STDOUT_FILENO;
+// Standard output.
+const STDOUT: i32 = 1;
 
 pub fn text(t: &[u8]) {
-    io::write_all(STDOUT_FILENO, t);
+    io::write_all(STDOUT, t);
 }
 
 // A number in decimal digits.
 pub fn number(n: u64) {
-    io::print_decimal(STDOUT_FILENO, n);
+    io::print_decimal(STDOUT, n);
 }
 
 // Two hexadecimal digits.
 fn byte(b: u8) {
-    io::print_hex(STDOUT_FILENO, b as u64, 2);
+    io::print_hex(STDOUT, b as u64, 2);
 }
 
 // Bytes, two digits each.
@@ -30,7 +31,7 @@ pub fn bytes(b: &[u8]) {
 // A space and 16 hexadecimal digits: a word.
 pub fn word(w: u64) {
     text(b" ");
-    io::print_hex(STDOUT_FILENO, w, 16);
+    io::print_hex(STDOUT, w, 16);
 }
 
 // The same: the word that eight bytes hold, least significant byte first.

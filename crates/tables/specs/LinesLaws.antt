@@ -1,4 +1,4 @@
--- What is proved of the tables program's lines: proofs/LinesLaws.antt has `lines-laws : LinesLaws`.
+-- What is proved of the tables program's lines: proofs/LinesLaws.antt has `lines_laws : LinesLaws`.
 use Rattle.std.specs.Prelude.{◌≡◌}
 use Rattle.text.specs.Text.{ascii}
 use Rattle.tables.specs.Lines.{three_lines}

@@ -1,13 +1,14 @@
 // The tables program: entry 01 of the table of α, entry 01 of that of α inverse, and T(0), a line each.
 #![tactic(auto)]
 
-use libc::STDOUT_FILENO;
-
 mod lines;
+
+// Standard output.
+const STDOUT: i32 = 1;
 
 // Writes a line's two parts. Whether that failed, which is left free, decides only whether the program goes on.
 fn write_line<'a>(front: &'a [u8], end: &'a [u8]) -> bool {
-    io::write_all(STDOUT_FILENO, front) && io::write_all(STDOUT_FILENO, end)
+    io::write_all(STDOUT, front) && io::write_all(STDOUT, end)
 }
 
 fn main() {

@@ -30,6 +30,7 @@ few_digits (suc most) (suc k) n below least =
     let less = few_digits most k (n / 10) (tenth_below (suc most) below) (λ h. tenth_least k (least (omega arith))) in omega (arith, less)
 
 same_digits : (most k n : ℕ) → k < most → n < 10 ^ suc k → (0 < k → 10 ^ k ≤ n) → last_digits 10 (suc k) n ≡ decimal_digits most n
+same_digits zero k n h below least = elim h [ ]
 same_digits (suc most) zero n h below least = rw (lt-ltb n 10 (omega (arith, below)), digit (n % 10) (omega arith))
 same_digits (suc most) (suc k) n h below least =
     let some : 10 ^ suc k ≤ n = least (omega arith) in

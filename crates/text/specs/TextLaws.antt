@@ -1,4 +1,4 @@
--- What is proved of text: proofs/TextLaws.antt has `text-laws : TextLaws`.
+-- What is proved of text: proofs/TextLaws.antt has `text_laws : TextLaws`.
 use Rattle.std.specs.Prelude.{◌≡◌, List, [], ◌∷◌, ℕ, ◌+◌, ◌-◌, ◌*◌, ◌^◌, ◌≤◌, ◌<◌, length}
 use Rattle.galois.specs.Words.{at}
 use Rattle.text.specs.Text.{ascii, decimal}
