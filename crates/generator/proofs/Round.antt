@@ -30,11 +30,11 @@ same : {c c' : List ℕ} {x x' y y' : ℕ} → c ≡ c' → x ≡ x' → y ≡ y
 same p q r = cc
 
 -- two pairs of maps that undo each other on words
-pub record Inverses (t t_inverse alpha alpha_inverse : ℕ → ℕ) : Type 0 where
-  pub inverse_t : UndoesWord t_inverse t
-  pub t_inverse : UndoesWord t t_inverse
-  pub inverse_alpha : UndoesWord alpha_inverse alpha
-  pub alpha_inverse : UndoesWord alpha alpha_inverse
+pub record Inverses (t t' alpha alpha' : ℕ → ℕ) : Type 0 where
+  pub inverse_t : UndoesWord t' t
+  pub t_inverse : UndoesWord t t'
+  pub inverse_alpha : UndoesWord alpha' alpha
+  pub alpha_inverse : UndoesWord alpha alpha'
 
 module _ {t t_inverse alpha alpha_inverse : ℕ → ℕ} (u : Inverses t t_inverse alpha alpha_inverse)
     (kind : Kind) (r : Registers) (w : EighteenWords r) where

@@ -1,12 +1,12 @@
 -- Four words loaded from 32 bytes and stored to them, over variables.
 use mathlib.Core.Path.{◌≡◌, refl, sym, ap, ◌∙◌, subst}
-use mathlib.Core.List.{List, [], ◌∷◌, ◌++◌}
+use mathlib.Core.List.{List, [], ◌∷◌}
 use Prim.Native.Nat.{ℕ, ◌+◌, ◌≤◌}
 use native.Mathlib.Omega.{arith}
 use borrow.Rule.Slice.PartMut.{put_mid}
 use lib.ListN.{length, take, drop, length-append, length-take, length-drop}
 use Rattle.galois.specs.Words.{byte, word, tabulate, at}
-use Rattle.galois.proofs.Bytes.{tabulate_all, tabulate_length}
+use Rattle.galois.proofs.Bytes.{tabulate_all}
 use Rattle.words.specs.Memory.{stored_word}
 use Rattle.words.proofs.Memory.{stored_eight}
 use Rattle.kalyna_cipher.specs.Blocks.{block_of, bytes_of}

@@ -1,9 +1,9 @@
 -- The laws of the cipher that specs/KalynaLaws.antt states.
 use mathlib.Core.Path.{◌≡◌, refl}
 use mathlib.Core.List.{List, [], ◌∷◌}
-use Prim.Native.Nat.{ℕ, zero, suc, ◌+◌, ◌*◌, ◌<◌}
+use Prim.Native.Nat.{ℕ, zero, suc}
 use lib.Bits.{bit_xor}
-use Rattle.galois.specs.Words.{byte, word, at, sum}
+use Rattle.galois.specs.Words.{at, sum}
 use Rattle.galois.proofs.Bytes.{tabulate_at}
 use Rattle.kalyna_cipher.specs.Blocks.{FourWords, Bytes32, block_of, bytes_of}
 use Rattle.kalyna_cipher.specs.Rounds.{added, xored, round, round_inverse}

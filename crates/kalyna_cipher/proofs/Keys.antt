@@ -1,12 +1,12 @@
 -- Round keys: four words whatever the key, and what the facts say of even and odd ones.
-use mathlib.Core.Path.{◌≡◌, refl, sym, ap, ap₂, ◌∙◌}
+use mathlib.Core.Path.{◌≡◌, sym, ap, ap₂, ◌∙◌}
 use mathlib.Core.List.{List, [], ◌∷◌}
 use Prim.Native.Nat.{ℕ, zero, suc, ◌+◌, ◌*◌, ◌/◌, ◌%◌, ◌^◌, ◌<◌}
 use native.Mathlib.Nat.{mod-lt}
 use native.Mathlib.Omega.{arith}
 use Rattle.galois.specs.Words.{tabulate, at, sum}
 use Rattle.galois.proofs.Bytes.{tabulate_at, tabulate_length}
-use Rattle.kalyna_cipher.specs.Blocks.{FourWords, Bytes32, block_of, bytes_of}
+use Rattle.kalyna_cipher.specs.Blocks.{FourWords, Bytes32, bytes_of}
 use Rattle.kalyna_cipher.specs.Rounds.{added, xored, round}
 use Rattle.kalyna_cipher.specs.RoundKeys.{intermediate_key_with, key_from, even_key_with, rotated_from, rotated_bytes, even_or_odd, round_key_with}
 use Rattle.kalyna_cipher.specs.Kalyna.{round_key}

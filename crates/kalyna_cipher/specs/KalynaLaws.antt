@@ -7,7 +7,7 @@ use Rattle.matrix.specs.Matrix.{matrix_row, matrix_inverse_row}
 use Rattle.substitution.specs.Substitution.{substitute}
 use Rattle.kalyna_cipher.specs.Blocks.{FourWords, Bytes32, block_of, bytes_of}
 use Rattle.kalyna_cipher.specs.Rounds.{added, subtracted, xored, substituted, shift, shift_back, mixed, round, round_inverse}
-use Rattle.kalyna_cipher.specs.Enciphering.{rounds, rounds_back, encipher_with, decipher_with}
+use Rattle.kalyna_cipher.specs.Enciphering.{rounds, rounds_back, encipher_with}
 use Rattle.kalyna_cipher.specs.RoundKeys.{intermediate_key_with, round_key_with}
 use Rattle.kalyna_cipher.specs.Kalyna.{round_key, enciphered, deciphered, enciphered_bytes, deciphered_bytes}
 use Rattle.kalyna_cipher.specs.Inverses.{Inverse}

@@ -1,5 +1,5 @@
 -- What the functions make, over variables: the proofs of the functions apply these.
-use Rattle.std.proofs.Common.{◌≡◌, ℕ, List, [], ◌∷◌, get_or, take, refl, ap, ◌∙◌, ap₂}
+use Rattle.std.proofs.Common.{◌≡◌, ℕ, List, [], ◌∷◌, get_or, take, refl, ap, ◌∙◌}
 use Rattle.galois.specs.Words.{tabulate, at}
 use Rattle.substitution.specs.Substitution.{column_tables}
 use Rattle.kalyna_rounds.specs.RoundsByTables.{gathered, sent_on, from, round_inverse_by}

@@ -1,5 +1,4 @@
 -- `generator::keystream_word` meets its contract: F and s0.
-use Rattle.std.proofs.Common.{rules}
 use Rattle.generator.specs.Registers.{keystream_word}
 use Rattle.generator.proofs.keystream_word.Goals as goal
 

@@ -1,5 +1,4 @@
 -- `generator::new_s15` meets its contract: both products and s13, and F mixed in.
-use Rattle.std.proofs.Common.{rules}
 use Rattle.generator.proofs.new_s15.Goals as goal
 
 pub returns : goal.returns

@@ -4,4 +4,4 @@ use Rattle.std.proofs.Common.{rules}
 use Rattle.generator.proofs.shift_in.Goals as goal
 
 pub returns : goal.returns
-returns c = shift_in_is c.args.t1 c.args.x (search rules)
+returns c = shift_in_is c.args.c c.args.x (search rules)

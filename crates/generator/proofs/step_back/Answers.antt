@@ -1,6 +1,5 @@
 -- `generator::step_back` meets its contract: the parts of a step back together.
 use Rattle.generator.specs.Registers.{previous_with}
-use Rattle.std.proofs.Common.{rules}
 use Rattle.generator.proofs.step_back.Goals as goal
 
 pub returns : goal.returns

@@ -1,0 +1,13 @@
+-- `cells::load_cells` meets its contract.
+use mathlib.Core.Path.{◌∙◌}
+use borrow.Author.Rules.{rules}
+use Rattle.cells.proofs.Loaded.{loaded_256, loaded_512}
+use Rattle.cells.proofs.load_cells.Goals as goal
+
+pub returns-then-key-eq32 : goal.returns-then-key-eq32
+returns-then-key-eq32 c = let a = c.args in
+    c.cells_256.ensures ∙ loaded_256 a.key.now a.iv.now c.four_words-v.ensures c.if-key-eq32.true c.four_words-k.ensures
+
+pub returns-else-key-eq32 : goal.returns-else-key-eq32
+returns-else-key-eq32 c = let a = c.args in
+    c.cells_512.ensures ∙ loaded_512 a.key.now a.iv.now c.four_words-v.ensures c.if-key-eq32.false c.eight_words-k.ensures

@@ -1,0 +1,12 @@
+-- What the loop of `word_of` keeps, and what falls.
+use Prim.Native.Nat.{◌<◌}
+use borrow.Author.Rules.{rules}
+use Rattle.galois.proofs.Built.{Built, built_start, built_more, built_end}
+use Rattle.loading.specs.Loading.{word_byte, word_of}
+use Rattle.loading.proofs.word_of.Given as goal
+
+abbrev pub invariant-loop-j : goal.invariant-loop-j
+invariant-loop-j l = Built (word_byte l.string l.i) l.out l.j × (l.i < 8)
+
+abbrev pub decreases-loop-j : goal.decreases-loop-j
+decreases-loop-j l = l.j

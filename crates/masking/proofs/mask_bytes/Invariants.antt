@@ -1,0 +1,16 @@
+-- What the loop of `mask_bytes` keeps, and what falls.
+use mathlib.Core.Path.{◌≡◌, refl, ap, ◌∙◌}
+use Prim.Native.Nat.{◌+◌, ◌-◌, ◌≤◌}
+use native.Mathlib.Omega.{arith}
+use borrow.Author.Rules.{rules}
+use lib.ListN.{length}
+use Rattle.masking.specs.Masking.{byte_at}
+use Rattle.masking.proofs.Masked.{partly, partly_all, partly_length, partly_set}
+use Rattle.masking.proofs.Words.{byte_at_sum}
+use Rattle.masking.proofs.mask_bytes.Given as goal
+
+abbrev pub invariant-loop-i : goal.invariant-loop-i
+invariant-loop-i l = (l.part ≡ partly (byte_at l.z) l.p l.initial.part l.i) × ((l.i ≤ length l.initial.part) × (length l.part ≡ length l.initial.part))
+
+abbrev pub decreases-loop-i : goal.decreases-loop-i
+decreases-loop-i l = length l.initial.part - l.i

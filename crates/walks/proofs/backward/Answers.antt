@@ -1,0 +1,13 @@
+-- `walks::backward` meets its contract: ordinary steps by eight and then one by one, steps of initialisation one by one.
+use borrow.Author.Rules.{rules}
+use Rattle.generator.specs.declared.Kind.TheVariants.{Ordinary}
+use Rattle.generator.specs.Functions.{previous_by}
+use Rattle.walks.proofs.Lines.{lines_and_rest}
+use Rattle.walks.proofs.backward.Goals as goal
+
+pub returns-in-Ordinary : goal.returns-in-Ordinary
+returns-in-Ordinary c = let a = c.args in
+    rw c.in-Ordinary.is (lines_and_rest (previous_by a.columns.now a.bytes.now a.inverse.now Ordinary) a.s a.n c.steps_back_by_eight-t.ensures c.steps_back_by_one.ensures)
+
+pub returns-in-Initial : goal.returns-in-Initial
+returns-in-Initial c = rw c.in-Initial.is c.steps_back_by_one-in-Initial.ensures

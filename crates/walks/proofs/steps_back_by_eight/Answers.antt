@@ -1,0 +1,24 @@
+-- `walks::steps_back_by_eight` meets its contract: each turn undoes eight steps.
+use mathlib.Core.Path.{refl}
+use Prim.Native.Nat.{◌-◌}
+use native.Mathlib.Omega.{arith}
+use borrow.Author.Rules.{rules}
+use Rattle.generator.specs.declared.Kind.TheVariants.{Ordinary}
+use Rattle.generator.specs.Functions.{previous_by}
+use Rattle.walks.proofs.Turns.{Turns, turns_none, turns_more, turns_all}
+use Rattle.walks.proofs.steps_back_by_eight.Goals as goal
+
+pub loop-lines-init : goal.loop-lines-init
+loop-lines-init c = turns_none
+
+pub overflow_add-lines : goal.overflow_add-lines
+overflow_add-lines c = omega arith
+
+pub loop-lines-smaller : goal.loop-lines-smaller
+loop-lines-smaller c = omega arith
+
+pub loop-lines-preserved : goal.loop-lines-preserved
+loop-lines-preserved c = turns_more c.loop-lines.invariant (omega arith) c.eight_steps_back-t.ensures
+
+pub returns : goal.returns
+returns c = turns_all c.loop-lines.invariant (omega arith) refl
