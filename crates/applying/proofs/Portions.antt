@@ -108,10 +108,7 @@ module _ (s : State) (source target : List ℕ) (ok : returned (applying_tests s
   pub target_length : length source ≤ length target
   target_length = ltb-false (length target) (length source) portion_advances.fits
 
-  module _ {copied : List ℕ} (e : copied ≡ take (length source) source ++ drop (length source) target) where
-    copied_is : copied ≡ source ++ drop (length source) target
-    copied_is = e ∙ ap (λ (l : List ℕ). l ++ drop (length source) target) (take-length source)
-
+  module _ {copied : List ℕ} (copied_is : copied ≡ source ++ drop (length source) target) where
     pub front : take (length source) copied ≡ source
     front = ap (take (length source)) copied_is ∙ take_at source (drop (length source) target) (length source) refl
 

@@ -195,11 +195,11 @@ module _ {s : State} {iv target : List ℕ} {t : State} {ys : List ℕ} (r : Rec
     compared : key_leads s iv ≡ b
     compared = sym (eb ∙ ap₂ (λ (key : List ℕ) (x : State). same_registers (load key iv) (registers_of x) && opening_accepts key iv) (front_is ∙ key_is) r.walked_back)
 
-    pub check_accepts : {left : List ℕ} → b ≡ true → left ≡ take (length front) front ++ drop (length front) target → Left s iv target (record { number = accepted; state = s }) left
+    pub check_accepts : {left : List ℕ} → b ≡ true → left ≡ front ++ drop (length front) target → Left s iv target (record { number = accepted; state = s }) left
     check_accepts {left} e el =
         let zero : returned (tests s iv target) ≡ accepted = decided s iv target r.passed (compared ∙ e) in
         let rest : drop (length front) target ≡ [] = ap (λ (n : ℕ). drop n target) (sym front_length) ∙ drop-length target in
-        let copied : left ≡ key_of s iv = el ∙ ap₂ ◌++◌ (take-length front) rest ∙ append-nil front ∙ front_is ∙ key_is in
+        let copied : left ≡ key_of s iv = el ∙ ap (λ (l : List ℕ). front ++ l) rest ∙ append-nil front ∙ front_is ∙ key_is in
         (answer_accepted (tests s iv target) s s zero refl, written_accepted (tests s iv target) (key_of s iv) target zero copied)
 
     pub check_refuses : b ≡ false → Left s iv target (record { number = refused_no_key_leads; state = s }) target

@@ -6,8 +6,7 @@ use mathlib.Core.List.{List, [], ◌∷◌, ◌++◌, append-nil}
 use native.Mathlib.Nat.{zero-add}
 use native.Mathlib.Omega.{arith}
 use lib.Dec.{eqb}
-use lib.ListN.{length, take, drop, get_or, length-append}
-use lib.Seq.{take-length}
+use lib.ListN.{length, drop, get_or, length-append}
 use borrow.Author.Tests.{eq-eqb, ne_eqb, eqb-true}
 use Rattle.csv_grammar.specs.Grammar as G
 use Rattle.csv_fields.specs.declared.FieldEnd.{FieldEnd}
@@ -118,5 +117,5 @@ measures_plain t e n q =
     }
 
 -- a copy of such a part to the front of a target
-pub written_plain : (t target now : List ℕ) → (0 < length t → get_or t 0 0 ≡ 34 → ⊥) → now ≡ take (length t) t ++ drop (length t) target → now ≡ content_of t ++ drop (length (content_of t)) target
-written_plain t target now n e = e ∙ (ap (λ (x : List ℕ). x ++ drop (length t) target) (take-length t) ∙ sym (ap (λ (x : List ℕ). x ++ drop (length x) target) (plain_content t n)))
+pub written_plain : (t target now : List ℕ) → (0 < length t → get_or t 0 0 ≡ 34 → ⊥) → now ≡ t ++ drop (length t) target → now ≡ content_of t ++ drop (length (content_of t)) target
+written_plain t target now n e = e ∙ sym (ap (λ (x : List ℕ). x ++ drop (length x) target) (plain_content t n))

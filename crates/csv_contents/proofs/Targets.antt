@@ -8,11 +8,11 @@ use lib.ListN.{length, take, drop, length-append, length-drop, drop_of_length-le
 use lib.Seq.{take_all, take-length, drop-drop, length-take-le, take-append_seam, drop-append_seam}
 
 -- a copy into the rest of a target
-pub copied_run : (t src ys : List ℕ) (o : ℕ) → o + length src ≤ length t → ys ≡ take (length src) src ++ drop (length src) (take (length t - o) (drop o t)) →
+pub copied_run : (t src ys : List ℕ) (o : ℕ) → o + length src ≤ length t → ys ≡ src ++ drop (length src) (take (length t - o) (drop o t)) →
     put_mid o (length t - o) t ys ≡ take o t ++ (src ++ drop (o + length src) t)
 copied_run t src ys o h e =
     let n : length (drop o t) ≤ length t - o = omega (arith, length-drop o t) in
-    let d : ys ≡ src ++ drop (o + length src) t = e ∙ (λ j. take-length src j ++ (ap (drop (length src)) (take_all (length t - o) (drop o t) n) ∙ drop-drop (length src) o t) j) in
+    let d : ys ≡ src ++ drop (o + length src) t = e ∙ ap (λ (x : List ℕ). src ++ x) (ap (drop (length src)) (take_all (length t - o) (drop o t) n) ∙ drop-drop (length src) o t) in
     let z : drop (length t - o) (drop o t) ≡ [] = drop_of_length-le (drop o t) n in
     ap (λ (x : List ℕ). take o t ++ x) ((λ j. d j ++ z j) ∙ append-nil (src ++ drop (o + length src) t))
 

@@ -1,4 +1,4 @@
--- The laws of contents. proofs/ContentsLaws.antt has `contents-laws : ContentsLaws`.
+-- The laws of contents. proofs/ContentsLaws.antt has `contents_laws : ContentsLaws`.
 use Rattle.std.specs.Prelude.{ℕ, ◌≤◌, ◌≡◌, ◌⊎◌, cond, List, [], ◌∷◌, ◌++◌, eqb, length, drop}
 use Rattle.refusals.specs.Lines.{RefusesInOrder}
 use Rattle.csv_grammar.specs.Grammar.{NonEscaped, Field}

@@ -155,8 +155,8 @@ fn write_quoted(part: &[u8], target: &mut [u8])
 
 // The content of a part to the front of a target: the count of bytes written, or a refusal, which leaves the target as it was.
 pub fn content(part: &[u8], target: &mut [u8]) -> Written
-    ensures fact_1 { result ≡ answer_of part.now (length target.old) }
-    ensures fact_2 { target.new ≡ target_of part.now target.old }
+    ensures value { result ≡ answer_of part.now (length target.old) }
+    ensures target_after { target.new ≡ target_of part.now target.old }
 {
     let m = measure(part);
     if !m.whole {

@@ -1,4 +1,4 @@
--- The laws of field ends. proofs/FieldsLaws.antt has `fields-laws : FieldsLaws`.
+-- The laws of field ends. proofs/FieldsLaws.antt has `fields_laws : FieldsLaws`.
 use Rattle.std.specs.Prelude.{ℕ, ◌+◌, ◌≤◌, ◌≡◌, true, List, [], ◌∷◌, ◌++◌, length, drop}
 use Rattle.csv_grammar.specs.Grammar.{TextData, Field}
 use Rattle.csv_fields.specs.Ends.{is_text_data, field_end}

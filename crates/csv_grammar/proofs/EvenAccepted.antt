@@ -12,7 +12,7 @@ use Rattle.csv_grammar.specs.Faults.{number_of}
 use Rattle.csv_grammar.specs.Table.{is_blank, add_line, rows_of, columns_of, table_of, HaveFields, Even}
 use Rattle.csv_grammar.proofs.Automaton.{Counter, Act, Letter, Inside, Close, Separate, End, Next, Refuse, kind_of, act_of, last_act, fault_of, end_of, read_from, read_of}
 use Rattle.csv_grammar.proofs.Letters.{told}
-use Rattle.csv_grammar.proofs.Division.{Division, at, step_by, step, run, begin, last_line, Ends, complete}
+use Rattle.csv_grammar.proofs.Division.{Division, step_by, step, run, begin, last_line, Ends, complete}
 use Rattle.csv_grammar.proofs.Sound.{Okay, okay, okay_step, no_ends_dead, dead_run}
 use Rattle.csv_grammar.proofs.Counted.{counter_of, Tells, tells, rows_last, length_last, counts, okay_blank}
 use Rattle.csv_grammar.proofs.Even.{last_end}

@@ -130,8 +130,8 @@ okay_step b (ended p q e) = after_cr_lem b p q e (kind_of b) (told b)
 okay_step {d} b (dead e) = dead (ap (λ (m : Mode). (step_by d b (act_of m (kind_of b))).mode) e)
 
 okay_run : {d : Division} {t : List ℕ} → Okay d t → (u : List ℕ) → Okay (run d u) (t ++ u)
-okay_run {t = t} o [] = rw append-nil o
-okay_run {t = t} o (b ∷ u) = subst (Okay _) (append_assoc t (b ∷ []) u) (okay_run (okay_step b o) u)
+okay_run {d = d} {t = t} o [] = rw append-nil o
+okay_run {d = d} {t = t} o (b ∷ u) = subst (Okay _) (append_assoc t (b ∷ []) u) (okay_run {d = step d b} {t = t ++ (b ∷ [])} (okay_step b o) u)
 
 pub okay : (t : List ℕ) → Okay (run begin t) t
 okay t = okay_run (open_line none none fresh refl) t

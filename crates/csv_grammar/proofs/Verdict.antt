@@ -127,7 +127,7 @@ right_from : (u a : List ℕ) → ((run begin a).mode ≡ Dead → ⊥) → Righ
 unfolding read_from end_of Found
 right_from [] a live =
     split (Right (a ++ [])) (eqb (fault_at (run begin a) []) 0)
-    (λ z. accepted a (last_ends _ (run begin a).mode (eqb-true _ _ z)))
+    (λ z. accepted a (last_ends (counter_of (run begin a)) (run begin a).mode (eqb-true _ _ z)))
     (λ nz. not_both nz (at_end_lem a live))
 right_from (b ∷ u) a live =
     split (Right (a ++ (b ∷ u))) (eqb (fault_at (run begin a) (b ∷ u)) 0)

@@ -1,4 +1,4 @@
--- The laws of the grammar. proofs/GrammarLaws.antt has `grammar-laws : GrammarLaws`.
+-- The laws of the grammar. proofs/GrammarLaws.antt has `grammar_laws : GrammarLaws`.
 use Rattle.std.specs.Prelude.{ℕ, ◌<◌, ◌≤◌, ◌≡◌, ◌⊎◌, true, List, [], ◌∷◌, ◌++◌, length}
 use Rattle.refusals.specs.Lines.{numbers_of}
 use Rattle.csv_grammar.specs.declared.Answer.{Answer}

@@ -1,4 +1,4 @@
--- Texts and their answers in numerals, a guard against a slip in the definitions. proofs/WorkedTexts.antt has `worked-texts : WorkedTexts`.
+-- Texts and their answers in numerals, a guard against a slip in the definitions. proofs/WorkedTexts.antt has `worked_texts : WorkedTexts`.
 use Rattle.std.specs.Prelude.{ℕ, zero, suc, ◌≡◌, List, [], ◌∷◌, ◌++◌}
 use Rattle.csv_grammar.specs.declared.Answer.{Answer}
 use Rattle.csv_grammar.specs.declared.Answer.TheVariants.{Counts, Refused}

@@ -1,4 +1,4 @@
--- The laws of walks and parts. proofs/WalkingLaws.antt has `walking-laws : WalkingLaws`.
+-- The laws of walks and parts. proofs/WalkingLaws.antt has `walking_laws : WalkingLaws`.
 use Rattle.std.specs.Prelude.{ℕ, ◌+◌, ◌<◌, ◌≤◌, ◌≡◌, ◌⊎◌, List, [], length}
 use Rattle.csv_grammar.specs.declared.Answer.{Answer}
 use Rattle.csv_grammar.specs.declared.Answer.TheVariants.{Counts}

@@ -1,4 +1,4 @@
--- The laws of the words. proofs/WordsLaws.antt has `words-laws : WordsLaws`.
+-- The laws of the words. proofs/WordsLaws.antt has `words_laws : WordsLaws`.
 use Rattle.std.specs.Prelude.{ℕ, ◌≡◌, true, false, List, [], ◌∷◌}
 use Rattle.csv_grammar.specs.declared.Answer.{Answer}
 use Rattle.csv_grammar.specs.declared.Answer.TheVariants.{Counts, Refused}

@@ -10,7 +10,7 @@ use generator::State;
 // The state that twenty words hold; these are its words.
 pub fn state_in(words: [u64; 20]) -> State
     ensures value { result ≡ state_in words }
-    ensures result_value { words_of result ≡ words }
+    ensures words_back { words_of result ≡ words }
 {
     State {
         cells: [

@@ -6,10 +6,7 @@ use Rattle.answers.specs.Tests.{limit}
 use Rattle.answers.proofs.state_number.Goals as goal
 
 pub returns-then-s-gt-LIMIT : goal.returns-then-s-gt-LIMIT
-returns-then-s-gt-LIMIT c = sym (rw (one_of _ 256 512 c.in-256.keys1, lt-ltb limit _ c.if-s-gt-LIMIT.true))
+returns-then-s-gt-LIMIT c = sym (rw (one_of _ 256 512 c.in-256.is, lt-ltb limit _ c.if-s-gt-LIMIT.true))
 
 pub returns-else-s-gt-LIMIT : goal.returns-else-s-gt-LIMIT
-returns-else-s-gt-LIMIT c = sym (rw (one_of _ 256 512 c.in-256.keys1, le-ltb limit _ c.if-s-gt-LIMIT.false))
-
-pub returns-in_default : goal.returns-in_default
-returns-in_default c = sym (rw (none_of _ 256 512 c.in_default.rest.1))
+returns-else-s-gt-LIMIT c = sym (rw (one_of _ 256 512 c.in-256.is, le-ltb limit _ c.if-s-gt-LIMIT.false))

@@ -1,0 +1,13 @@
+-- What the loop of `write_quoted` keeps, and what falls.
+use Prim.Native.Nat.{◌-◌}
+use mathlib.Core.Path.{◌≡◌}
+use lib.ListN.{length, drop}
+use Rattle.csv_contents.specs.Contents.{unquoted}
+use Rattle.csv_contents.proofs.Targets.{Filled}
+use Rattle.csv_contents.proofs.write_quoted.Given as goal
+
+abbrev pub invariant-loop-i : goal.invariant-loop-i
+invariant-loop-i l = Filled (unquoted (drop 1 l.part)) l.initial.target l.target l.o × (drop l.o (unquoted (drop 1 l.part)) ≡ unquoted (drop l.i l.part))
+
+abbrev pub decreases-loop-i : goal.decreases-loop-i
+decreases-loop-i l = length l.part - l.i
