@@ -17,4 +17,4 @@ bench:
 
 # Lays the files of crates/ out as the gate wants them.
 fmt:
-	@rt fmt
+	@for crate in $$(sed -n 's/^\([a-z][a-z0-9_]*\).*/\1/p' crates.txt); do (cd "crates/$$crate" && rt fmt) || exit 1; done

@@ -1,6 +1,6 @@
 /*
  * The reader of order files for C, RFC 4180 text read where it stands: the functions that target/staticlib/liborders_c.a defines, which
- * `rt staticlib orders_c` proves and builds for x86-64.
+ * `tools/staticlib orders_c` proves and builds for x86-64.
  *
  * orders_read tells how many rows and columns a text has, or why it is refused. orders_next walks over all fields in one pass, and
  * orders_part finds one field by its row and column: each hands the field over as a part of the caller's own text, quotes included.

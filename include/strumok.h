@@ -1,6 +1,6 @@
 /*
  * The stream cipher Strumok (DSTU 8845:2019), and the block cipher of DSTU 7624:2014 (Kalyna) with block and key of 256 bits, for C: the
- * functions that target/staticlib/libstrumok_c.a defines, which `rt staticlib strumok_c` proves and builds for x86-64.
+ * functions that target/staticlib/libstrumok_c.a defines, which `tools/staticlib strumok_c` proves and builds for x86-64.
  *
  * strumok_open makes a state from a key and an IV, at position 0. strumok_apply and strumok_window apply the keystream from the state's
  * position on, in portions of any length, and leave the state behind the last byte; enciphering and deciphering are the same call.

@@ -1,6 +1,6 @@
 /*
  * The window call of Strumok (DSTU 8845:2019) over a state that is lent, for firmware: the function that
- * target/staticlib/libstrumok_mut.a defines, which `rt staticlib strumok_mut` proves and builds for x86-64.
+ * target/staticlib/libstrumok_mut.a defines, which `tools/staticlib strumok_mut` proves and builds for x86-64.
  */
 #ifndef STRUMOK_MUT_H
 #define STRUMOK_MUT_H

@@ -20,7 +20,7 @@ fn main() {
         println!("cargo:rerun-if-changed={}", library.display());
         if !library.is_file() {
             eprintln!(
-                "{} is missing. Make it with `rt staticlib {name}`, \
+                "{} is missing. Make it with `tools/staticlib {name}`, \
                  or set STRUMOK_LIB_DIR to the directory that holds lib{name}.a.",
                 library.display()
             );

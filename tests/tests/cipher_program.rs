@@ -27,7 +27,7 @@ fn program() -> Command {
     let path = program.display();
     assert!(
         program.is_file(),
-        "the cipher program {path} is missing; `rt check cipher` makes it"
+        "the cipher program {path} is missing; `tools/program cipher` makes it"
     );
     Command::new(program)
 }
