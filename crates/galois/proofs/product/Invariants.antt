@@ -1,11 +1,8 @@
 -- What the loop of `product` keeps, and what falls.
-use mathlib.Core.Path.{◌≡◌, refl, sym, ap, ◌∙◌, subst}
-use Prim.Native.Nat.{ℕ, ◌<◌, ◌-◌, ◌/◌, ◌%◌, ◌*◌}
-use borrow.Author.Rules.{rules}
-use native.Mathlib.Omega.{arith}
-use lib.Bits.{bit_xor, xor_zero_r}
+use mathlib.Core.Path.{◌≡◌}
+use Prim.Native.Nat.{◌<◌}
+use lib.Bits.{bit_xor}
 use Rattle.galois.specs.Field.{gmul, gmul_bits}
-use Rattle.galois.proofs.Gmul.{xtime_lt, bit_times_lt, bits_more}
 use Rattle.galois.proofs.product.Given as goal
 
 abbrev pub invariant-loop-n : goal.invariant-loop-n

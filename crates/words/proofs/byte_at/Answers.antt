@@ -1,5 +1,5 @@
 -- `words::byte_at` meets its contract: past the end a list has 0.
-use Rattle.std.proofs.Common.{sym, arith, rules}
+use Rattle.std.proofs.Common.{sym, arith}
 use Rattle.words.proofs.Memory.{at_past}
 use Rattle.words.proofs.byte_at.Goals as goal
 

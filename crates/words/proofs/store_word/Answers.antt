@@ -1,5 +1,5 @@
 -- `words::store_word` meets its contract: all eight bytes are set, or there are not eight.
-use Rattle.std.proofs.Common.{sym, refl, ◌∙◌, arith, length-set, rules, ne_eqb}
+use Rattle.std.proofs.Common.{sym, refl, ◌∙◌, arith, length-set, ne_eqb}
 use Rattle.words.proofs.Memory.{all_set, stored_eight}
 use Rattle.words.proofs.store_word.Goals as goal
 
