@@ -1,10 +1,10 @@
 -- Eight bytes and a word: read one by one, set one by one, and a word of keystream over them.
 use mathlib.Core.Path.{◌≡◌, refl, sym, ap, ap₂, ◌∙◌}
-use mathlib.Core.List.{List, [], ◌∷◌}
+use mathlib.Core.List.{List}
 use Prim.Native.Nat.{ℕ, ◌+◌, ◌%◌, ◌<◌}
 use native.Mathlib.Omega.{arith}
 use lib.Bits.{bit_xor}
-use lib.ListN.{length, set}
+use lib.ListN.{length}
 use Rattle.galois.specs.Words.{at, byte, word, tabulate}
 use Rattle.galois.proofs.Bytes.{byte_xor, byte_word}
 use Rattle.galois.proofs.Spread.{tabulate_ext}

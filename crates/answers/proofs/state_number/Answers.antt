@@ -1,7 +1,7 @@
 -- `answers::state_number` meets its contract.
 use mathlib.Core.Path.{sym}
 use borrow.Author.Tests.{lt-ltb, le-ltb}
-use Rattle.refusals.proofs.Tests.{one_of, none_of}
+use Rattle.refusals.proofs.Tests.{one_of}
 use Rattle.answers.specs.Tests.{limit}
 use Rattle.answers.proofs.state_number.Goals as goal
 

@@ -1,7 +1,6 @@
 -- `cells::cells_512` meets its contract: the table of rows, read.
 use mathlib.Core.Path.{refl}
 use Rattle.loading.specs.Loading.{loaded_cells}
-use borrow.Author.Rules.{rules}
 use Rattle.cells.proofs.cells_512.Goals as goal
 
 pub returns : goal.returns

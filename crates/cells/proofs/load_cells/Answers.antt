@@ -1,6 +1,5 @@
 -- `cells::load_cells` meets its contract.
 use mathlib.Core.Path.{◌∙◌}
-use borrow.Author.Rules.{rules}
 use Rattle.cells.proofs.Loaded.{loaded_256, loaded_512}
 use Rattle.cells.proofs.load_cells.Goals as goal
 

@@ -1,7 +1,6 @@
 -- `keystream::apply_aligned` meets its contract: whole words and what is left.
 -- less than a word is left
 use native.Mathlib.Omega.{arith}
-use borrow.Author.Rules.{rules}
 use lib.ListN.{length, length-take, length-drop}
 use Rattle.keystream_words.proofs.Parts.{part_done, all_done, done_length}
 use Rattle.keystream.proofs.apply_aligned.Goals as goal

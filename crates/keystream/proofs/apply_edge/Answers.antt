@@ -1,6 +1,5 @@
 -- `keystream::apply_edge` meets its contract: nothing to do, or the step's word over the bytes, and the state after it where the word is used up.
 use native.Mathlib.Omega.{arith}
-use borrow.Author.Rules.{rules}
 use Rattle.keystream_words.proofs.Parts.{none_done, all_done, stepped_over, left_over}
 use Rattle.keystream.proofs.apply_edge.Goals as goal
 

@@ -1,7 +1,6 @@
 -- `keystream::apply_from` meets its contract: up to the end of the word, or that and what follows.
 use Prim.Native.Nat.{◌-◌, ◌%◌}
 use native.Mathlib.Omega.{arith}
-use borrow.Author.Rules.{rules}
 use lib.ListN.{length}
 use Rattle.keystream_words.proofs.Parts.{none_done, part_done, all_done, done_length}
 use Rattle.keystream.proofs.apply_from.Goals as goal

@@ -1,12 +1,8 @@
 -- `keystream_words::apply_blocks` meets its contract: each turn is a stride of 128 bytes.
 use mathlib.Core.Path.{refl}
-use Prim.Native.Nat.{◌-◌}
 use native.Mathlib.Omega.{arith}
-use lib.ListN.{length}
-use Rattle.generator.specs.declared.Kind.TheVariants.{Ordinary}
-use Rattle.generator.specs.Functions.{next_in}
 use Rattle.keystream_words.proofs.Lines.{part_length, part_on}
-use Rattle.keystream_words.proofs.Strides.{Strides, strides_none, strides_length, strides_all, strides_room, strides_more}
+use Rattle.keystream_words.proofs.Strides.{strides_none, strides_length, strides_all, strides_room, strides_more}
 use Rattle.keystream_words.proofs.apply_blocks.Goals as goal
 
 pub loop-i-init : goal.loop-i-init

@@ -1,6 +1,5 @@
 -- `keystream_words::apply_half_block` meets its contract: nothing to do, or eight words.
 use native.Mathlib.Omega.{arith}
-use borrow.Author.Rules.{rules}
 use Rattle.keystream_words.proofs.Parts.{none_done, all_done}
 use Rattle.keystream_words.proofs.apply_half_block.Goals as goal
 

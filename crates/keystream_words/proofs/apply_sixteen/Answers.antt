@@ -1,7 +1,6 @@
 -- `keystream_words::apply_sixteen` meets its contract: word after word.
 use mathlib.Core.Path.{refl}
 use native.Mathlib.Omega.{arith}
-use borrow.Author.Rules.{rules}
 use Rattle.keystream_words.proofs.Parts.{none_done, all_done, done_length, over_length}
 use Rattle.keystream_words.proofs.Lines.{eight_words}
 use Rattle.keystream_words.proofs.apply_sixteen.Goals as goal

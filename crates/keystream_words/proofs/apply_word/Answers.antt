@@ -1,6 +1,5 @@
 -- `keystream_words::apply_word` meets its contract: a step, and its word over eight bytes.
 use native.Mathlib.Omega.{arith}
-use borrow.Author.Rules.{rules}
 use Rattle.keystream_words.proofs.Lines.{no_word, word_made}
 use Rattle.keystream_words.proofs.apply_word.Goals as goal
 

@@ -1,13 +1,9 @@
 -- `keystream_words::apply_word_by_word` meets its contract: each turn is a stride of 8 bytes.
 use mathlib.Core.Path.{refl}
-use Prim.Native.Nat.{◌+◌, ◌-◌}
+use Prim.Native.Nat.{◌+◌}
 use native.Mathlib.Omega.{arith}
-use lib.ListN.{length}
-use borrow.Author.Rules.{rules}
-use Rattle.generator.specs.declared.Kind.TheVariants.{Ordinary}
-use Rattle.generator.specs.Functions.{next_in}
 use Rattle.keystream_words.proofs.Lines.{word_on}
-use Rattle.keystream_words.proofs.Strides.{Strides, strides_none, strides_length, strides_all, strides_more}
+use Rattle.keystream_words.proofs.Strides.{strides_none, strides_length, strides_all, strides_more}
 use Rattle.keystream_words.proofs.apply_word_by_word.Goals as goal
 
 pub loop-i-init : goal.loop-i-init

@@ -1,13 +1,9 @@
 -- What the loop of `apply_word_by_word` keeps, and what falls.
-use mathlib.Core.Path.{refl}
-use Prim.Native.Nat.{◌+◌, ◌-◌}
-use native.Mathlib.Omega.{arith}
+use Prim.Native.Nat.{◌-◌}
 use lib.ListN.{length}
-use borrow.Author.Rules.{rules}
 use Rattle.generator.specs.declared.Kind.TheVariants.{Ordinary}
 use Rattle.generator.specs.Functions.{next_in}
-use Rattle.keystream_words.proofs.Lines.{word_on}
-use Rattle.keystream_words.proofs.Strides.{Strides, strides_none, strides_length, strides_all, strides_more}
+use Rattle.keystream_words.proofs.Strides.{Strides}
 use Rattle.keystream_words.proofs.apply_word_by_word.Given as goal
 
 abbrev pub invariant-loop-i : goal.invariant-loop-i

@@ -1,7 +1,6 @@
 -- `keystream_words::apply_words` meets its contract: blocks, half a block, words.
 use Prim.Native.Nat.{◌*◌, ◌/◌}
 use native.Mathlib.Omega.{arith}
-use borrow.Author.Rules.{rules}
 use lib.ListN.{length}
 use Rattle.keystream_words.proofs.Parts.{none_done, part_done}
 use Rattle.keystream_words.proofs.apply_words.Goals as goal

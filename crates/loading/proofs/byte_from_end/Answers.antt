@@ -1,6 +1,5 @@
 -- `loading::byte_from_end` meets its contract.
 use mathlib.Core.Path.{sym}
-use borrow.Author.Rules.{rules}
 use Rattle.loading.proofs.Strings.{reverse_at, reverse_past}
 use Rattle.loading.proofs.byte_from_end.Goals as goal
 

@@ -1,5 +1,4 @@
 -- `loading::eight_words` meets its contract.
-use borrow.Author.Rules.{rules}
 use Rattle.loading.proofs.eight_words.Goals as goal
 
 pub returns : goal.returns

@@ -1,8 +1,6 @@
 -- `loading::word_of` meets its contract: the bytes from j on are in place.
-use Prim.Native.Nat.{◌<◌}
-use borrow.Author.Rules.{rules}
-use Rattle.galois.proofs.Built.{Built, built_start, built_more, built_end}
-use Rattle.loading.specs.Loading.{word_byte, word_of}
+use Rattle.galois.proofs.Built.{built_start, built_more, built_end}
+use Rattle.loading.specs.Loading.{word_of}
 use Rattle.loading.proofs.word_of.Goals as goal
 
 pub loop-j-init : goal.loop-j-init

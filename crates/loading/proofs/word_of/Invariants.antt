@@ -1,8 +1,7 @@
 -- What the loop of `word_of` keeps, and what falls.
 use Prim.Native.Nat.{◌<◌}
-use borrow.Author.Rules.{rules}
-use Rattle.galois.proofs.Built.{Built, built_start, built_more, built_end}
-use Rattle.loading.specs.Loading.{word_byte, word_of}
+use Rattle.galois.proofs.Built.{Built}
+use Rattle.loading.specs.Loading.{word_byte}
 use Rattle.loading.proofs.word_of.Given as goal
 
 abbrev pub invariant-loop-j : goal.invariant-loop-j

@@ -1,11 +1,10 @@
 -- `masking::mask_bytes` meets its contract: after i turns the first i bytes are done.
-use mathlib.Core.Path.{◌≡◌, refl, ap, ◌∙◌}
-use Prim.Native.Nat.{◌+◌, ◌-◌, ◌≤◌}
+use mathlib.Core.Path.{refl, ap, ◌∙◌}
+use Prim.Native.Nat.{◌+◌, ◌≤◌}
 use native.Mathlib.Omega.{arith}
-use borrow.Author.Rules.{rules}
 use lib.ListN.{length}
 use Rattle.masking.specs.Masking.{byte_at}
-use Rattle.masking.proofs.Masked.{partly, partly_all, partly_length, partly_set}
+use Rattle.masking.proofs.Masked.{partly_all, partly_length, partly_set}
 use Rattle.masking.proofs.Words.{byte_at_sum}
 use Rattle.masking.proofs.mask_bytes.Goals as goal
 

@@ -1,12 +1,9 @@
 -- What the loop of `mask_bytes` keeps, and what falls.
-use mathlib.Core.Path.{◌≡◌, refl, ap, ◌∙◌}
-use Prim.Native.Nat.{◌+◌, ◌-◌, ◌≤◌}
-use native.Mathlib.Omega.{arith}
-use borrow.Author.Rules.{rules}
+use mathlib.Core.Path.{◌≡◌}
+use Prim.Native.Nat.{◌-◌, ◌≤◌}
 use lib.ListN.{length}
 use Rattle.masking.specs.Masking.{byte_at}
-use Rattle.masking.proofs.Masked.{partly, partly_all, partly_length, partly_set}
-use Rattle.masking.proofs.Words.{byte_at_sum}
+use Rattle.masking.proofs.Masked.{partly}
 use Rattle.masking.proofs.mask_bytes.Given as goal
 
 abbrev pub invariant-loop-i : goal.invariant-loop-i

@@ -1,8 +1,7 @@
 -- `matrix::circulant_times` meets its contract: the bytes from i on are in place.
-use borrow.Author.Rules.{rules}
 use native.Mathlib.Omega.{arith}
-use Rattle.galois.proofs.Built.{Built, built_start, built_more, built_end}
-use Rattle.matrix.specs.Matrix.{row_times, circulant_times}
+use Rattle.galois.proofs.Built.{built_start, built_more, built_end}
+use Rattle.matrix.specs.Matrix.{circulant_times}
 use Rattle.matrix.proofs.circulant_times.Goals as goal
 
 pub loop-i-init : goal.loop-i-init

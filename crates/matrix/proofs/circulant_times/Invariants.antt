@@ -1,8 +1,6 @@
 -- What the loop of `circulant_times` keeps, and what falls.
-use borrow.Author.Rules.{rules}
-use native.Mathlib.Omega.{arith}
-use Rattle.galois.proofs.Built.{Built, built_start, built_more, built_end}
-use Rattle.matrix.specs.Matrix.{row_times, circulant_times}
+use Rattle.galois.proofs.Built.{Built}
+use Rattle.matrix.specs.Matrix.{row_times}
 use Rattle.matrix.proofs.circulant_times.Given as goal
 
 abbrev pub invariant-loop-i : goal.invariant-loop-i

@@ -1,13 +1,9 @@
 -- What the loop of `row_times` keeps, and what falls.
-use mathlib.Core.Path.{◌≡◌, refl, ap, ap₂, ◌∙◌}
-use Prim.Native.Nat.{ℕ, ◌≤◌, ◌-◌}
-use borrow.Author.Rules.{rules}
-use native.Mathlib.Omega.{arith}
-use lib.Bits.{bit_xor}
+use mathlib.Core.Path.{◌≡◌}
+use Prim.Native.Nat.{◌≤◌, ◌-◌}
 use Rattle.galois.specs.Words.{byte}
 use Rattle.galois.specs.Field.{gmul}
-use Rattle.matrix.specs.Matrix.{xor_sum, circulant, row_times}
-use Rattle.matrix.proofs.XorSum.{xor_sum_more}
+use Rattle.matrix.specs.Matrix.{xor_sum, circulant}
 use Rattle.matrix.proofs.row_times.Given as goal
 
 abbrev pub invariant-loop-j : goal.invariant-loop-j

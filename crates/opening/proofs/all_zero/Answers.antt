@@ -1,13 +1,7 @@
 -- `opening::all_zero` meets its contract: after i turns the bits of the first i bytes are together, and the others decide.
-use mathlib.Core.Path.{◌≡◌, refl, sym, ◌∙◌}
-use mathlib.Core.Bool.{◌&&◌}
-use Prim.Native.Nat.{◌-◌}
+use mathlib.Core.Path.{refl, sym, ◌∙◌}
 use native.Mathlib.Numerals.{add-one}
 use native.Mathlib.Omega.{arith}
-use borrow.Author.Rules.{rules}
-use lib.Dec.{eqb}
-use lib.ListN.{length, drop}
-use Rattle.opening.specs.Opening.{all_zero}
 use Rattle.opening.proofs.Zeros.{one_byte_more, no_byte_more}
 use Rattle.opening.proofs.all_zero.Goals as goal
 

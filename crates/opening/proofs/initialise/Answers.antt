@@ -1,6 +1,5 @@
 -- `opening::initialise` meets its contract: the tables are the cipher's.
 use mathlib.Core.Path.{◌≡◌, ap, ◌∙◌}
-use borrow.Author.Rules.{rules}
 use Rattle.generator.specs.declared.Kind.TheVariants.{Ordinary, Initial}
 use Rattle.generator.specs.Registers.{next, walked}
 use Rattle.generator.specs.Functions.{next_in}

@@ -1,10 +1,7 @@
 -- `opening::open` meets its contract.
-use mathlib.Core.Path.{◌≡◌, refl, sym, ap, ◌∙◌}
+use mathlib.Core.Path.{refl, sym, ap, ◌∙◌}
 use native.Mathlib.Omega.{arith}
-use borrow.Author.Rules.{rules}
 use Rattle.generator.specs.declared.State.{State}
-use Rattle.refusals.specs.Numbers.{accepted}
-use Rattle.refusals.specs.Tests.{returned}
 use Rattle.opening.specs.Opening.{blank, opened_state, opening_tests}
 use Rattle.answers.proofs.Tests.{answer_refused}
 use Rattle.opening.proofs.Opened.{key_short, opens}

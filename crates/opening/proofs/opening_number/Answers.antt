@@ -1,8 +1,7 @@
 -- `opening::opening_number` meets its contract: each way out is the number of one test.
 use mathlib.Core.Path.{sym, ◌∙◌}
-use borrow.Author.Rules.{rules}
 use borrow.Author.Tests.{eq-eqb, ne_eqb}
-use Rattle.refusals.proofs.Tests.{one_of, none_of}
+use Rattle.refusals.proofs.Tests.{one_of}
 use Rattle.opening.proofs.opening_number.Goals as goal
 
 pub returns-then-iv-ne32 : goal.returns-then-iv-ne32

@@ -1,5 +1,4 @@
 -- `positions::move_to` meets its contract.
-use borrow.Author.Rules.{rules}
 use Rattle.positions.proofs.PositionLaws.{moved_ahead, moved_behind}
 use Rattle.positions.proofs.move_to.Goals as goal
 

@@ -1,6 +1,5 @@
 -- `positions::walk_back` meets its contract: the tables are those of T inverted and of α inverse.
 use mathlib.Core.Path.{◌∙◌}
-use borrow.Author.Rules.{rules}
 use Rattle.generator.specs.declared.Kind.TheVariants.{Ordinary}
 use Rattle.generator.proofs.GeneratorLaws.{backward_by_tables}
 use Rattle.positions.proofs.walk_back.Goals as goal

@@ -1,6 +1,5 @@
 -- `positions::walk_on` meets its contract: the tables are the cipher's.
 use mathlib.Core.Path.{◌∙◌}
-use borrow.Author.Rules.{rules}
 use Rattle.generator.specs.declared.Kind.TheVariants.{Ordinary}
 use Rattle.generator.proofs.GeneratorLaws.{forward_by_tables}
 use Rattle.positions.proofs.walk_on.Goals as goal

@@ -1,5 +1,4 @@
 -- `recovering::key_words` meets its contract: the table of rows, read the other way.
-use borrow.Author.Rules.{rules}
 use Rattle.galois.specs.Words.{at}
 use Rattle.recovering.proofs.KeyWords.{words_256, words_512}
 use Rattle.recovering.proofs.key_words.Goals as goal

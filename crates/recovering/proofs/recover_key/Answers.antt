@@ -1,6 +1,5 @@
 -- `recovering::recover_key` meets its contract.
 use mathlib.Core.Path.{◌∙◌}
-use borrow.Author.Rules.{rules}
 use lib.ListN.{length}
 use Rattle.recovering.proofs.KeyWords.{recovered_key_lem}
 use Rattle.recovering.proofs.recover_key.Goals as goal

@@ -2,10 +2,9 @@
 use mathlib.Core.Path.{◌≡◌, refl, sym, ap, ◌∙◌}
 use Prim.Native.Nat.{ℕ, ◌+◌, ◌-◌, ◌%◌, ◌≤◌, ◌<◌}
 use native.Mathlib.Omega.{arith}
-use borrow.Author.Rules.{rules}
 use lib.ListN.{length}
 use Rattle.galois.specs.Words.{byte, at}
-use Rattle.galois.proofs.Filled.{filled, filled_more, filled_all, filled_length}
+use Rattle.galois.proofs.Filled.{filled_more, filled_all, filled_length}
 use Rattle.loading.specs.Recovery.{string_of}
 use Rattle.loading.proofs.Strings.{string_of_length, string_of_at}
 use Rattle.recovering.proofs.write_words.Goals as goal

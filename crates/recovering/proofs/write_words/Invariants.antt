@@ -1,13 +1,10 @@
 -- What the loop of `write_words` keeps, and what falls.
-use mathlib.Core.Path.{◌≡◌, refl, sym, ap, ◌∙◌}
-use Prim.Native.Nat.{ℕ, ◌+◌, ◌-◌, ◌%◌, ◌≤◌, ◌<◌}
-use native.Mathlib.Omega.{arith}
-use borrow.Author.Rules.{rules}
+use mathlib.Core.Path.{◌≡◌}
+use Prim.Native.Nat.{◌-◌, ◌≤◌}
 use lib.ListN.{length}
-use Rattle.galois.specs.Words.{byte, at}
-use Rattle.galois.proofs.Filled.{filled, filled_more, filled_all, filled_length}
+use Rattle.galois.specs.Words.{at}
+use Rattle.galois.proofs.Filled.{filled}
 use Rattle.loading.specs.Recovery.{string_of}
-use Rattle.loading.proofs.Strings.{string_of_length, string_of_at}
 use Rattle.recovering.proofs.write_words.Given as goal
 
 abbrev pub invariant-loop-p : goal.invariant-loop-p

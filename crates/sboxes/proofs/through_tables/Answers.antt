@@ -1,9 +1,7 @@
 -- `sboxes::through_tables` meets its contract: the bytes from j on are in place.
 use mathlib.Core.Path.{ap}
 use Prim.Native.Nat.{◌-◌}
-use borrow.Author.Rules.{rules}
-use Rattle.galois.specs.Words.{byte}
-use Rattle.galois.proofs.Built.{Built, built_start, built_more, built_end}
+use Rattle.galois.proofs.Built.{built_start, built_more, built_end}
 use Rattle.sboxes.specs.Sboxes.{sent, through}
 use Rattle.sboxes.proofs.through_tables.Goals as goal
 

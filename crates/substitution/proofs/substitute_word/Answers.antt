@@ -2,7 +2,6 @@
 use mathlib.Core.Path.{ap₂, ap, ◌∙◌}
 use mathlib.Core.List.{List}
 use Prim.Native.Nat.{ℕ}
-use borrow.Author.Rules.{rules}
 use Rattle.sboxes.specs.Sboxes.{through}
 use Rattle.matrix.specs.Matrix.{circulant_times}
 use Rattle.substitution.specs.Substitution.{substitute}

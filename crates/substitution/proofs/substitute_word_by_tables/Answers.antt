@@ -1,6 +1,5 @@
 -- `substitution::substitute_word_by_tables` meets its contract: the entries at the eight bytes, in their order.
 use mathlib.Core.Path.{refl}
-use borrow.Author.Rules.{rules}
 use Rattle.substitution.specs.Substitution.{look_up}
 use Rattle.substitution.proofs.substitute_word_by_tables.Goals as goal
 

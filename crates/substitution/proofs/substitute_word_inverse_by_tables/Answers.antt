@@ -1,7 +1,6 @@
 -- `substitution::substitute_word_inverse_by_tables` meets its contract: the inverse of M, then that of π.
 use mathlib.Core.Path.{ap, ◌∙◌}
 use Rattle.sboxes.specs.Sboxes.{through}
-use borrow.Author.Rules.{rules}
 use Rattle.substitution.proofs.substitute_word_inverse_by_tables.Goals as goal
 
 pub returns : goal.returns

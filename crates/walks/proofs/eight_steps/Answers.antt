@@ -1,6 +1,5 @@
 -- `walks::eight_steps` meets its contract: step after step.
 use mathlib.Core.Path.{◌∙◌}
-use borrow.Author.Rules.{rules}
 use Rattle.generator.specs.declared.Kind.TheVariants.{Ordinary}
 use Rattle.generator.specs.Functions.{next_in}
 use Rattle.generator.proofs.Iterate.{stepped_state}

@@ -1,5 +1,4 @@
 -- `walks::eight_steps_back` meets its contract: step after step.
-use borrow.Author.Rules.{rules}
 use Rattle.generator.specs.declared.Kind.TheVariants.{Ordinary}
 use Rattle.generator.specs.Functions.{previous_by}
 use Rattle.walks.proofs.Lines.{eight_in_line}

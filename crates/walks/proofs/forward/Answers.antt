@@ -1,5 +1,4 @@
 -- `walks::forward` meets its contract: ordinary steps by eight and then one by one, steps of initialisation one by one.
-use borrow.Author.Rules.{rules}
 use Rattle.generator.specs.declared.Kind.TheVariants.{Ordinary}
 use Rattle.generator.specs.Functions.{next_in}
 use Rattle.walks.proofs.Lines.{lines_and_rest}

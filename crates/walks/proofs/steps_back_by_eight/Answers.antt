@@ -1,11 +1,7 @@
 -- `walks::steps_back_by_eight` meets its contract: each turn undoes eight steps.
 use mathlib.Core.Path.{refl}
-use Prim.Native.Nat.{◌-◌}
 use native.Mathlib.Omega.{arith}
-use borrow.Author.Rules.{rules}
-use Rattle.generator.specs.declared.Kind.TheVariants.{Ordinary}
-use Rattle.generator.specs.Functions.{previous_by}
-use Rattle.walks.proofs.Turns.{Turns, turns_none, turns_more, turns_all}
+use Rattle.walks.proofs.Turns.{turns_none, turns_more, turns_all}
 use Rattle.walks.proofs.steps_back_by_eight.Goals as goal
 
 pub loop-lines-init : goal.loop-lines-init

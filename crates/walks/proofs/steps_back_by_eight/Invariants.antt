@@ -1,11 +1,8 @@
 -- What the loop of `steps_back_by_eight` keeps, and what falls.
-use mathlib.Core.Path.{refl}
 use Prim.Native.Nat.{◌-◌}
-use native.Mathlib.Omega.{arith}
-use borrow.Author.Rules.{rules}
 use Rattle.generator.specs.declared.Kind.TheVariants.{Ordinary}
 use Rattle.generator.specs.Functions.{previous_by}
-use Rattle.walks.proofs.Turns.{Turns, turns_none, turns_more, turns_all}
+use Rattle.walks.proofs.Turns.{Turns}
 use Rattle.walks.proofs.steps_back_by_eight.Given as goal
 
 abbrev pub invariant-loop-lines : goal.invariant-loop-lines

@@ -1,10 +1,7 @@
 -- `walks::steps_back_by_one` meets its contract: each turn undoes a step.
-use Prim.Native.Nat.{◌-◌}
 use native.Mathlib.Nat.{one-mul}
 use native.Mathlib.Omega.{arith}
-use borrow.Author.Rules.{rules}
-use Rattle.generator.specs.Functions.{previous_by}
-use Rattle.walks.proofs.Turns.{Turns, turns_none, turns_more, turns_all}
+use Rattle.walks.proofs.Turns.{turns_none, turns_more, turns_all}
 use Rattle.walks.proofs.steps_back_by_one.Goals as goal
 
 pub loop-undone-init : goal.loop-undone-init

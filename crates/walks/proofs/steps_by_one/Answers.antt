@@ -1,12 +1,10 @@
 -- `walks::steps_by_one` meets its contract: each turn is a step.
 use mathlib.Core.Path.{◌∙◌}
-use Prim.Native.Nat.{◌-◌}
 use native.Mathlib.Nat.{one-mul}
 use native.Mathlib.Omega.{arith}
-use borrow.Author.Rules.{rules}
 use Rattle.generator.specs.Functions.{next_in}
 use Rattle.generator.proofs.Iterate.{stepped_state}
-use Rattle.walks.proofs.Turns.{Turns, turns_none, turns_more, turns_all}
+use Rattle.walks.proofs.Turns.{turns_none, turns_more, turns_all}
 use Rattle.walks.proofs.steps_by_one.Goals as goal
 
 pub loop-taken-init : goal.loop-taken-init

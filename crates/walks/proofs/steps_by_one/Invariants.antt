@@ -1,12 +1,7 @@
 -- What the loop of `steps_by_one` keeps, and what falls.
-use mathlib.Core.Path.{◌∙◌}
 use Prim.Native.Nat.{◌-◌}
-use native.Mathlib.Nat.{one-mul}
-use native.Mathlib.Omega.{arith}
-use borrow.Author.Rules.{rules}
 use Rattle.generator.specs.Functions.{next_in}
-use Rattle.generator.proofs.Iterate.{stepped_state}
-use Rattle.walks.proofs.Turns.{Turns, turns_none, turns_more, turns_all}
+use Rattle.walks.proofs.Turns.{Turns}
 use Rattle.walks.proofs.steps_by_one.Given as goal
 
 abbrev pub invariant-loop-taken : goal.invariant-loop-taken
