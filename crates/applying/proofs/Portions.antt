@@ -9,7 +9,7 @@ use borrow.Author.Tests.{lt-ltb, le-ltb, ltb-true, ltb-false}
 use lib.Dec.{T, ltb}
 use lib.IntN.{pos}
 use lib.ListN.{length, take, drop, length-take, length-drop}
-use lib.Seq.{take-length, take_at, drop_at, drop-drop}
+use lib.Seq.{take_at, drop_at, drop-drop}
 use Rattle.generator.specs.declared.State.{State}
 use Rattle.generator.specs.declared.Kind.TheVariants.{Ordinary}
 use Rattle.generator.specs.Registers.{Registers, registers_of, next, keystream_word, iterate, walked}

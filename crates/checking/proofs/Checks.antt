@@ -8,7 +8,7 @@ use native.Mathlib.Omega.{arith}
 use borrow.Author.Tests.{eq-eqb, ne_eqb, eqb-true, not-false}
 use lib.Dec.{eqb}
 use lib.ListN.{length, replicate, take, drop, length-append, drop_of_length-le}
-use lib.Seq.{length-take-le, take-length, drop-length, take_at, drop-cons}
+use lib.Seq.{length-take-le, drop-length, take_at, drop-cons}
 use Rattle.galois.specs.Words.{at}
 use Rattle.generator.specs.declared.State.{State}
 use Rattle.generator.specs.Registers.{Registers, registers_of, with_registers}

@@ -17,7 +17,6 @@ use Rattle.moving.specs.Moving.{moved}
 use Rattle.moving.proofs.Moves.{moves_to}
 use Rattle.moving.proofs.MovingLaws.{moving_laws}
 use Rattle.applying.specs.Applying.{applied}
-use Rattle.applying.specs.ApplyingLaws.{Restored}
 use Rattle.applying.proofs.AcceptedPortions.{accepted_portion}
 use Rattle.applying.proofs.ApplyingLaws.{applying_laws}
 use Rattle.strumok.specs.Chains.{Call, portion, window, move, check, answer_to, count_of, after, AllAccepted, total, IvFits, Reached}

@@ -1,9 +1,6 @@
 -- `applying::advancing_number` meets its contract: each way out is the number of one test.
 use mathlib.Core.Path.{sym, ◌∙◌}
 use native.Mathlib.Omega.{arith}
-use borrow.Author.Rules.{rules}
-use Rattle.refusals.specs.Tests.{Test}
-use Rattle.answers.specs.Tests.{WellFormed}
 use Rattle.answers.proofs.Tests.{position_le}
 use Rattle.applying.proofs.Portions.{ill_formed, misfit, too_far, in_range}
 use Rattle.applying.proofs.advancing_number.Goals as goal

@@ -2,7 +2,6 @@
 use mathlib.Core.Path.{ap, ◌∙◌}
 use mathlib.Core.List.{List}
 use Prim.Native.Nat.{ℕ}
-use borrow.Author.Rules.{rules}
 use Rattle.generator.specs.declared.Kind.TheVariants.{Ordinary}
 use Rattle.generator.specs.Functions.{next_in}
 use Rattle.applying.specs.AnyStep.{applied_by, applied_target_by}

@@ -1,11 +1,8 @@
 -- `applying::apply_with` meets its contract: refused, nothing is done; else the source is copied and the keystream applied to the copy.
-use mathlib.Core.Path.{◌≡◌, sym, ap, ◌∙◌}
-use borrow.Author.Rules.{rules}
+use mathlib.Core.Path.{sym, ap, ◌∙◌}
 use lib.ListN.{length}
 use Rattle.generator.specs.declared.Kind.TheVariants.{Ordinary}
 use Rattle.generator.specs.Functions.{next_in}
-use Rattle.refusals.specs.Numbers.{accepted}
-use Rattle.refusals.specs.Tests.{returned}
 use Rattle.applying.specs.Applying.{applying_tests}
 use Rattle.refusals.proofs.Tests.{written_refused}
 use Rattle.answers.proofs.Tests.{answer_refused}

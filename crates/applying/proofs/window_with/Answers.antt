@@ -1,12 +1,11 @@
 -- `applying::window_with` meets its contract: refused, nothing is done; else the keystream is applied to the part of the buffer.
-use mathlib.Core.Path.{◌≡◌, sym, ap, ◌∙◌}
+use mathlib.Core.Path.{sym, ap, ◌∙◌}
 use mathlib.Core.Bool.{Bool}
 use native.Mathlib.Omega.{arith}
-use borrow.Author.Rules.{rules}
 use lib.ListN.{length}
 use Rattle.generator.specs.declared.Kind.TheVariants.{Ordinary}
 use Rattle.generator.specs.Functions.{next_in}
-use Rattle.refusals.specs.Numbers.{accepted, refused_window_past_end}
+use Rattle.refusals.specs.Numbers.{refused_window_past_end}
 use Rattle.refusals.specs.Tests.{returned}
 use Rattle.applying.specs.Applying.{advancing_tests, window_tests}
 use Rattle.refusals.proofs.Tests.{written_refused}

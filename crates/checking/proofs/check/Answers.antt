@@ -4,15 +4,11 @@
 use mathlib.Core.Path.{◌≡◌, sym, ◌∙◌}
 use native.Mathlib.Omega.{arith}
 use borrow.Author.Rules.{rules}
-use lib.ListN.{length}
-use Rattle.refusals.specs.Numbers.{accepted, refused_no_key_leads}
-use Rattle.refusals.specs.Tests.{returned}
+use Rattle.refusals.specs.Numbers.{refused_no_key_leads}
 use Rattle.generator.proofs.Owned.{owned_words}
 use Rattle.loading.proofs.Owned.{owned_bytes}
-use Rattle.checking.specs.Checking.{tests_before10}
-use Rattle.checking.specs.CheckingLaws.{ChecksExactly}
 use Rattle.checking.proofs.CheckingLaws.{checks_exactly}
-use Rattle.checking.proofs.Checks.{refused_before_10, target_le, room_length, Recovered, front_le, front_length, check_accepts, check_refuses}
+use Rattle.checking.proofs.Checks.{refused_before_10, target_le, room_length, front_le, front_length, check_accepts, check_refuses}
 use Rattle.checking.proofs.check.Goals as goal
 
 pub returns-then-number-ne-ACCEPTED : goal.returns-then-number-ne-ACCEPTED

@@ -1,8 +1,6 @@
 -- `checking::checking_number` meets its contract: each way out is the number of one test.
 -- past the tests of the state
 use mathlib.Core.Path.{sym, ◌∙◌}
-use borrow.Author.Rules.{rules}
-use Rattle.answers.specs.Tests.{WellFormed}
 use Rattle.checking.proofs.Checks.{iv_misfit, stored_ill_formed, target_misfit, all_fit}
 use Rattle.checking.proofs.checking_number.Goals as goal
 

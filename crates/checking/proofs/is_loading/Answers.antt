@@ -2,7 +2,6 @@
 use mathlib.Core.Path.{◌≡◌, ap, ◌∙◌}
 use mathlib.Core.List.{List}
 use Prim.Native.Nat.{ℕ}
-use borrow.Author.Rules.{rules}
 use Rattle.loading.specs.Loading.{load}
 use Rattle.checking.specs.Checking.{same_words}
 use Rattle.checking.proofs.Checks.{r1_differs, r2_differs, cells_decide}

@@ -1,6 +1,5 @@
 -- `checking::leads` meets its contract: the comparison decides first, then opening's own number.
 use mathlib.Core.Path.{sym, ◌∙◌}
-use borrow.Author.Rules.{rules}
 use Rattle.checking.proofs.leads.Goals as goal
 
 pub returns-then-is_loading : goal.returns-then-is_loading

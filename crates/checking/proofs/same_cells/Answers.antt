@@ -1,11 +1,8 @@
 -- `checking::same_cells` meets its contract: after i turns the first i cells are equal, and the others decide.
-use mathlib.Core.Path.{◌≡◌, refl, sym, ◌∙◌}
-use Prim.Native.Nat.{◌-◌}
+use mathlib.Core.Path.{refl, sym, ◌∙◌}
 use native.Mathlib.Numerals.{add-one}
 use native.Mathlib.Omega.{arith}
 use borrow.Author.Rules.{rules}
-use lib.ListN.{length, drop}
-use Rattle.checking.specs.Checking.{same_words}
 use Rattle.checking.proofs.Checks.{place_differs, place_same, places_end}
 use Rattle.checking.proofs.same_cells.Goals as goal
 

@@ -1,12 +1,8 @@
 -- What the loop of `same_cells` keeps, and what falls.
-use mathlib.Core.Path.{◌≡◌, refl, sym, ◌∙◌}
+use mathlib.Core.Path.{◌≡◌}
 use Prim.Native.Nat.{◌-◌}
-use native.Mathlib.Numerals.{add-one}
-use native.Mathlib.Omega.{arith}
-use borrow.Author.Rules.{rules}
 use lib.ListN.{length, drop}
 use Rattle.checking.specs.Checking.{same_words}
-use Rattle.checking.proofs.Checks.{place_differs, place_same, places_end}
 use Rattle.checking.proofs.same_cells.Given as goal
 
 abbrev pub invariant-loop-i : goal.invariant-loop-i

@@ -1,7 +1,6 @@
 -- `checking::walk_to_loading` meets its contract: the tables are those of T inverted and of α inverse.
 use mathlib.Core.Path.{◌≡◌, ap, ◌∙◌}
 use Prim.Native.Nat.{◌+◌, ◌/◌}
-use borrow.Author.Rules.{rules}
 use Rattle.generator.specs.declared.Kind.TheVariants.{Ordinary, Initial}
 use Rattle.generator.specs.Registers.{previous, walked}
 use Rattle.generator.specs.Functions.{previous_by}

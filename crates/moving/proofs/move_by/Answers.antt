@@ -1,11 +1,9 @@
 -- `moving::move_by` meets its contract: each way out is one place where a move can end.
 use mir.Syntax.{w64}
 use mir.ValLaws.{to_z-of_z}
-use mathlib.Core.Path.{◌≡◌, sym, ap, ◌∙◌}
+use mathlib.Core.Path.{sym, ap, ◌∙◌}
 use native.Mathlib.Omega.{arith}
-use borrow.Author.Rules.{rules}
-use lib.IntN.{ℤ, pos, negsuc, ◌+ℤ◌}
-use Rattle.answers.specs.Tests.{WellFormed}
+use lib.IntN.{ℤ, pos, ◌+ℤ◌}
 use Rattle.moving.specs.Functions.{span_of}
 use Rattle.moving.proofs.Moves.{is_back, is_ahead, back_below, back_to, moved_ill_formed, moves_to, moves_above, moves_below}
 use Rattle.answers.proofs.Tests.{position_le}
