@@ -1,8 +1,6 @@
 -- What the loop of `print` keeps, and what falls.
 use Prim.Native.Nat.{◌-◌, ◌≤◌}
-use native.Mathlib.Omega.{arith}
 use lib.ListN.{length}
-use borrow.Author.Rules.{rules}
 use Rattle.step_words.proofs.print.Given as goal
 
 abbrev pub invariant-loop-i : goal.invariant-loop-i

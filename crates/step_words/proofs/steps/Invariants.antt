@@ -1,10 +1,8 @@
 -- What the loop of `steps` keeps, and what falls.
 use Prim.Native.Nat.{◌-◌}
-use native.Mathlib.Omega.{arith}
 use lib.ListN.{length}
-use borrow.Author.Rules.{rules}
 use Rattle.generator.specs.Functions.{next_in}
-use Rattle.step_words.proofs.Taken.{Taken, taken_none, taken_length, taken_more, taken_all}
+use Rattle.step_words.proofs.Taken.{Taken}
 use Rattle.step_words.proofs.steps.Given as goal
 
 abbrev pub invariant-loop-i : goal.invariant-loop-i
