@@ -6,7 +6,6 @@ use Rattle.applying.specs.AnyStep.{applied_by, applied_target_by}
 use Rattle.applying.proofs.AnyStepLaws.{any_step_laws}
 use Rattle.twenty_words.specs.TwentyWords.{state_in}
 use Rattle.twenty_words.proofs.TwentyWords.{answered_with}
-use borrow.Author.Rules.{rules}
 use Rattle.strumok_c.proofs.strumok_apply_with.Goals as goal
 
 pub returns : goal.returns

@@ -4,7 +4,6 @@ use Rattle.generator.specs.declared.State.{State}
 use Rattle.checking.specs.Checking.{checked, checked_target}
 use Rattle.checking.specs.CheckingLaws.{ChecksExactly}
 use Rattle.answers.specs.declared.Answer.{Answer}
-use borrow.Author.Rules.{rules}
 use Rattle.strumok_c.proofs.strumok_check.Goals as goal
 
 pub returns : goal.returns

@@ -8,7 +8,6 @@ use Rattle.moving.specs.Moving.{moved}
 use Rattle.moving.proofs.MovingLaws.{moving_laws}
 use Rattle.twenty_words.specs.TwentyWords.{state_in}
 use Rattle.twenty_words.proofs.TwentyWords.{answered}
-use borrow.Author.Rules.{rules}
 use Rattle.strumok_c.proofs.strumok_move.Goals as goal
 
 pub returns : goal.returns

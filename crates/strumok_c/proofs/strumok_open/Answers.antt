@@ -2,7 +2,6 @@
 use mathlib.Core.Path.{ap, ◌∙◌}
 use Rattle.answers.specs.declared.Answer.{Answer}
 use Rattle.twenty_words.specs.TwentyWords.{words_of}
-use borrow.Author.Rules.{rules}
 use Rattle.strumok_c.proofs.strumok_open.Goals as goal
 
 pub returns : goal.returns

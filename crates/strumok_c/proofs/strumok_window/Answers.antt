@@ -4,7 +4,6 @@ use Rattle.applying.specs.Applying.{windowed, windowed_buffer}
 use Rattle.applying.proofs.ApplyingLaws.{applying_laws}
 use Rattle.twenty_words.specs.TwentyWords.{state_in}
 use Rattle.twenty_words.proofs.TwentyWords.{answered_with}
-use borrow.Author.Rules.{rules}
 use Rattle.strumok_c.proofs.strumok_window.Goals as goal
 
 pub returns : goal.returns

@@ -6,7 +6,6 @@ use Rattle.applying.specs.AnyStep.{windowed_by, windowed_buffer_by}
 use Rattle.applying.proofs.AnyStepLaws.{any_step_laws}
 use Rattle.twenty_words.specs.TwentyWords.{state_in}
 use Rattle.twenty_words.proofs.TwentyWords.{answered_with}
-use borrow.Author.Rules.{rules}
 use Rattle.strumok_c.proofs.strumok_window_with.Goals as goal
 
 pub returns : goal.returns
