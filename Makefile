@@ -1,7 +1,7 @@
 # The repository's two commands, the benchmark, and the layout of its files. `make test` is the gate.
 .PHONY: test run bench fmt
 
-# Proves every crate from nothing, tries the must-fail edits, runs the programs and the tests outside Rattle. Last line: N passed, 0 failed.
+# Proves every crate, tries the must-fail edits, runs the programs and the tests outside Rattle. Last line: N passed, 0 failed.
 test:
 	@tools/test
 

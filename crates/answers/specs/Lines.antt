@@ -62,7 +62,7 @@ pub record RefusesExactly (a : Answer) (lines : List Line) (numbers : List ℕ) 
 abbrev pub WritesNothing : Answer → (held left : List ℕ) → Type 0
 WritesNothing a held left = (a.number ≡ accepted → ⊥) → left ≡ held
 
--- ---- the laws: proofs/Lines.antt has `line-laws : LineLaws`
+-- ---- the laws: proofs/Lines.antt has `line_laws : LineLaws`
 
 -- the table's lines 1 to 9, in its order; line 10 is in checking
 abbrev pub table_lines : (key iv : List ℕ) (s : State) (len n start : ℕ) (to : ℤ) → List Line

@@ -1,4 +1,4 @@
--- What is proved of portions and windows over lent tables: proofs/AnyStepLaws.antt has `any-step-laws : AnyStepLaws`.
+-- What is proved of portions and windows over lent tables: proofs/AnyStepLaws.antt has `any_step_laws : AnyStepLaws`.
 -- Whatever the lent tables hold, each call refuses what the call of specs/Applying.antt refuses; with the ten tables of the cipher it answers as that
 -- call does, whatever the state and the buffers hold.
 use Rattle.std.specs.Prelude.{◌≡◌, List, [], ◌∷◌, ℕ, length}

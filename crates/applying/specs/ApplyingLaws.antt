@@ -1,4 +1,4 @@
--- What is proved of portions and windows: proofs/ApplyingLaws.antt has `applying-laws : ApplyingLaws`.
+-- What is proved of portions and windows: proofs/ApplyingLaws.antt has `applying_laws : ApplyingLaws`.
 -- States hold any registers.
 use Rattle.std.specs.Prelude.{◌≡◌, List, [], ◌∷◌, ◌++◌, ℕ, ◌+◌, ◌≤◌, pos, length, take, drop}
 use Rattle.galois.specs.Words.{tabulate}

@@ -1,4 +1,4 @@
--- What is proved of the check of a stored state: proofs/CheckingLaws.antt has `checking-laws : CheckingLaws`.
+-- What is proved of the check of a stored state: proofs/CheckingLaws.antt has `checking_laws : CheckingLaws`.
 use Rattle.std.specs.Prelude.{◌≡◌, List, [], ◌∷◌, ℕ, ◌/◌, length}
 use Rattle.generator.specs.declared.State.{State}
 use Rattle.generator.specs.Registers.{EighteenWords, registers_of}
@@ -37,7 +37,7 @@ abbrev pub StoredChecked : Type 0
 StoredChecked = (s : State) (iv target : List ℕ) → EighteenWords (registers_of s) → Bytes iv → NoneApplies (lines_before10 s iv (length target)) → Stored s iv target
 
 -- demands 1 and 3, of one check. The contract of `check` says it of every state that a program holds and every `&[u8]`: such a state has eighteen words
--- (`owned-words` of generator/proofs/Owned.antt) and such a slice has bytes (`owned-bytes` of loading/proofs/Owned.antt).
+-- (`owned_words` of generator/proofs/Owned.antt) and such a slice has bytes (`owned_bytes` of loading/proofs/Owned.antt).
 pub record ChecksExactly (s : State) (iv target : List ℕ) : Type 0 where
   pub refuses : RefusesCheck s iv target
   pub stored : NoneApplies (lines_before10 s iv (length target)) → Stored s iv target

@@ -1,4 +1,4 @@
--- What is proved of α: proofs/AlphaLaws.antt has `alpha-laws : AlphaLaws`.
+-- What is proved of α: proofs/AlphaLaws.antt has `alpha_laws : AlphaLaws`.
 use Rattle.std.specs.Prelude.{◌≡◌, [], ◌∷◌, ℕ}
 use Rattle.galois.specs.Words.{word, at, UndoesWord}
 use Rattle.galois.specs.Field.{beta_power}

@@ -13,7 +13,7 @@ use Rattle.generator.specs.Registers.{Registers, registers_of, with_registers, n
 abbrev pub new_s15_by : (alpha alpha_inverse : List ℕ) → Kind → Registers → ℕ
 new_s15_by alpha alpha_inverse = new_s15_with (alpha_times_with (at alpha)) (alpha_inverse_times_with (at alpha_inverse))
 
--- ---- forward by ten tables in one, laid as `stepTables`: the eight of T, then that of α, then that of its inverse
+-- ---- forward by ten tables in one, laid as `step_tables`: the eight of T, then that of α, then that of its inverse
 
 abbrev pub alpha_times_in : (tables : List (List ℕ)) → ℕ → ℕ
 alpha_times_in tables = alpha_times_with (at (slice_index_or tables 8 []))

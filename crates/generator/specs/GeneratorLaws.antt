@@ -1,4 +1,4 @@
--- What is proved of steps and walks: proofs/GeneratorLaws.antt has `generator-laws : GeneratorLaws`.
+-- What is proved of steps and walks: proofs/GeneratorLaws.antt has `generator_laws : GeneratorLaws`.
 -- Each law is said once for both kinds of step, but for two on the new s15 that are of one kind each, and of all registers: sixteen cells and two registers
 -- that hold any words.
 use Rattle.std.specs.Prelude.{◌≡◌, ℕ, ◌+◌, ◌%◌, ◌^◌, bit_xor}

@@ -1,4 +1,4 @@
--- What is proved of the two calls: proofs/CallLaws.antt has `call-laws : CallLaws`.
+-- What is proved of the two calls: proofs/CallLaws.antt has `call_laws : CallLaws`.
 use Rattle.std.specs.Prelude.{◌≡◌, List, [], ◌∷◌, ◌++◌, ℕ, ◌<◌, length, take, drop}
 use Rattle.galois.specs.Words.{at}
 use Rattle.refusals.specs.Numbers.{accepted}

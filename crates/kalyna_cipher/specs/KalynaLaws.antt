@@ -1,4 +1,4 @@
--- What is proved of the cipher: proofs/KalynaLaws.antt has `kalyna-laws : KalynaLaws`. A key is any list of numbers: of words, or of bytes.
+-- What is proved of the cipher: proofs/KalynaLaws.antt has `kalyna_laws : KalynaLaws`. A key is any list of numbers: of words, or of bytes.
 use Rattle.std.specs.Prelude.{◌≡◌, List, [], ◌∷◌, ℕ, ◌+◌, ◌*◌, ◌/◌, ◌%◌, ◌^◌, ◌<◌}
 use Rattle.std.specs.Int.Bits.{bit_xor}
 use Rattle.galois.specs.Words.{byte, tabulate, at}

@@ -1,5 +1,5 @@
 -- The standard's example of enciphering, of the definitions: a guard against a slip in them that the laws would follow. The published vectors as a
--- whole are run by a program (crate `vectors`). proofs/WorkedBlock.antt has `worked-block : WorkedBlock`.
+-- whole are run by a program (crate `vectors`). proofs/WorkedBlock.antt has `worked_block : WorkedBlock`.
 use Rattle.std.specs.Prelude.{◌≡◌, List, [], ◌∷◌, ℕ, ◌+◌}
 use Rattle.galois.specs.Words.{tabulate}
 use Rattle.kalyna_cipher.specs.Kalyna.{enciphered_bytes}

@@ -1,4 +1,4 @@
--- What is proved of rounds by tables: proofs/RoundsByTablesLaws.antt has `rounds-by-tables-laws : RoundsByTablesLaws`.
+-- What is proved of rounds by tables: proofs/RoundsByTablesLaws.antt has `rounds_by_tables_laws : RoundsByTablesLaws`.
 use Rattle.std.specs.Prelude.{◌≡◌}
 use Rattle.sboxes.specs.Sboxes.{pi_inverse}
 use Rattle.kalyna_cipher.specs.Rounds.{round, round_inverse}

@@ -1,6 +1,6 @@
 -- The first two keystream words of a published vector of DSTU 8845:2019 for each key size, of the definitions: what the worked table cannot tell,
 -- such as the number of steps of initialisation or the cells of Z, this does. The vectors as a whole are run by a program (crate `vectors`).
--- proofs/FirstWords.antt has `first-words : FirstWords`.
+-- proofs/FirstWords.antt has `first_words : FirstWords`.
 use Rattle.std.specs.Prelude.{◌≡◌, List, [], ◌∷◌, ◌++◌, ℕ}
 use Rattle.generator.specs.Registers.{keystream_word}
 use Rattle.loading.specs.Loading.{zeros, registers_at}

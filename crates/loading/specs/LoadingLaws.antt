@@ -1,4 +1,4 @@
--- What is proved of the loading: proofs/LoadingLaws.antt has `loading-laws : LoadingLaws`.
+-- What is proved of the loading: proofs/LoadingLaws.antt has `loading_laws : LoadingLaws`.
 use Rattle.std.specs.Prelude.{◌≡◌, cond, ◌||◌, List, [], ◌∷◌, reverse, ℕ, ◌*◌, ◌^◌, ◌<◌, eqb, length}
 use Rattle.std.specs.Int.Bits.{bit_xor}
 use Rattle.galois.specs.Words.{tabulate}

@@ -1,5 +1,5 @@
 -- Document 01, "Worked table (all proved)": the eleven rows, each the words computed and the words expected, and one claim over all rows.
--- proofs/WorkedTable.antt has `worked-table : WorkedTable`.
+-- proofs/WorkedTable.antt has `worked_table : WorkedTable`.
 use Rattle.std.specs.Prelude.{◌≡◌, List, [], ◌∷◌, ◌++◌, map, ℕ}
 use Rattle.galois.specs.Words.{at}
 use Rattle.galois.specs.Alpha.{alpha_table, alpha_inverse_table, alpha_times}

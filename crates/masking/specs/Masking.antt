@@ -13,7 +13,7 @@ abbrev pub masked : (stream : ℕ → ℕ) → (p : ℕ) → List ℕ → List �
 masked stream p [] = []
 masked stream p (x ∷ xs) = bit_xor x (stream p) ∷ masked stream (suc p) xs
 
--- proofs/Words.antt has `masking-laws : MaskingLaws`
+-- proofs/Words.antt has `masking_laws : MaskingLaws`
 pub record MaskingLaws : Type 0 where
   -- the bytes of the word 0706050403020100 at positions 0 to 8
   pub least_significant_first : tabulate 9 (byte_at 0x0706050403020100) ≡ 0 ∷ 1 ∷ 2 ∷ 3 ∷ 4 ∷ 5 ∷ 6 ∷ 7 ∷ 0 ∷ []

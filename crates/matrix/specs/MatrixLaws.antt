@@ -1,4 +1,4 @@
--- What is proved of M: proofs/MatrixLaws.antt has `matrix-laws : MatrixLaws`.
+-- What is proved of M: proofs/MatrixLaws.antt has `matrix_laws : MatrixLaws`.
 use Rattle.galois.specs.Words.{UndoesWord}
 use Rattle.matrix.specs.Matrix.{matrix_row, matrix_inverse_row, circulant_times}
 

@@ -1,4 +1,4 @@
--- What is proved of moves: proofs/MovingLaws.antt has `moving-laws : MovingLaws`.
+-- What is proved of moves: proofs/MovingLaws.antt has `moving_laws : MovingLaws`.
 -- States hold any registers: sixteen cells and two registers that are words, nothing else asked.
 use Rattle.std.specs.Prelude.{◌≡◌, List, [], ◌∷◌, ℕ, ℤ, pos, neg_ℤ}
 use Rattle.generator.specs.declared.State.{State}

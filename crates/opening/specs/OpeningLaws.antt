@@ -1,4 +1,4 @@
--- What is proved of opening: proofs/OpeningLaws.antt has `opening-laws : OpeningLaws`.
+-- What is proved of opening: proofs/OpeningLaws.antt has `opening_laws : OpeningLaws`.
 use Rattle.std.specs.Prelude.{◌≡◌, ◌⊎◌, List, [], ◌∷◌, ℕ, length}
 use Rattle.galois.specs.Words.{at}
 use Rattle.generator.specs.declared.State.{State}

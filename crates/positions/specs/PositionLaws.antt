@@ -1,4 +1,4 @@
--- What is proved of a state at another position: proofs/PositionLaws.antt has `position-laws : PositionLaws`.
+-- What is proved of a state at another position: proofs/PositionLaws.antt has `position_laws : PositionLaws`.
 -- States hold any registers: sixteen cells and two registers that are words, nothing else asked.
 use Rattle.std.specs.Prelude.{◌≡◌, List, ℕ, ◌/◌, ◌≤◌, ℤ, pos}
 use Rattle.generator.specs.declared.State.{State}

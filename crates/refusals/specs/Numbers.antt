@@ -74,7 +74,7 @@ refused_zero_key = 14
 abbrev pub refused_block_length : ℕ
 refused_block_length = 15
 
--- ---- the law: proofs/NumberLaws.antt has `number-laws : NumberLaws`
+-- ---- the law: proofs/NumberLaws.antt has `number_laws : NumberLaws`
 
 -- every number, in the order above
 abbrev pub every_number : List ℕ

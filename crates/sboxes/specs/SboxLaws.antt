@@ -1,4 +1,4 @@
--- What is proved of π: proofs/SboxLaws.antt has `sbox-laws : SboxLaws`.
+-- What is proved of π: proofs/SboxLaws.antt has `sbox_laws : SboxLaws`.
 use Rattle.std.specs.Prelude.{◌≡◌, List, [], ◌∷◌, map, ℕ, ◌<◌, get_or, take}
 use Rattle.galois.specs.Words.{at}
 use Rattle.sboxes.specs.Sboxes.{pi, pi_inverse}

@@ -1,4 +1,4 @@
--- What is proved of chains of calls: proofs/ChainLaws.antt has `Chain-laws : ChainLaws`.
+-- What is proved of chains of calls: proofs/ChainLaws.antt has `chain_laws : ChainLaws`.
 use Rattle.std.specs.Prelude.{◌≡◌, List, [], ◌∷◌, ◌++◌, ℕ, ◌≤◌, pos, length, take, drop}
 use Rattle.generator.specs.declared.State.{State}
 use Rattle.generator.specs.declared.Kind.TheVariants.{Ordinary}

@@ -1,5 +1,5 @@
 -- The demands, as statements. Their proofs are proofs/Demands.antt: `refusals : Refusals`, `keystream : Keystream` and
--- `stored-states : StoredStates`. What is said of one call stands with that call.
+-- `stored_states : StoredStates`. What is said of one call stands with that call.
 use Rattle.std.specs.Prelude.{◌≡◌, List, ℕ, ◌/◌, pos, length, drop}
 use Rattle.generator.specs.declared.State.{State}
 use Rattle.generator.specs.Registers.{registers_of}

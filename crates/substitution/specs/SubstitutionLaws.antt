@@ -1,4 +1,4 @@
--- What is proved of T: proofs/SubstitutionLaws.antt has `substitution-laws : SubstitutionLaws`.
+-- What is proved of T: proofs/SubstitutionLaws.antt has `substitution_laws : SubstitutionLaws`.
 use Rattle.std.specs.Prelude.{◌≡◌, List, [], ℕ, ◌+◌, ◌<◌, get_or}
 use Rattle.galois.specs.Words.{at, UndoesWord}
 use Rattle.sboxes.specs.Sboxes.{pi_inverse}

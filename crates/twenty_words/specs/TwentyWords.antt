@@ -17,7 +17,7 @@ state_in words = state_of (record { cells = take 16 words; r1 = at words 16; r2 
 abbrev pub numbered : State
 numbered = record { cells = 0 ∷ 1 ∷ 2 ∷ 3 ∷ 4 ∷ 5 ∷ 6 ∷ 7 ∷ 8 ∷ 9 ∷ 10 ∷ 11 ∷ 12 ∷ 13 ∷ 14 ∷ 15 ∷ []; r1 = 16; r2 = 17; size = 18; position = 19 }
 
--- proofs/TwentyWords.antt has `twenty-words-laws : TwentyWordsLaws`
+-- proofs/TwentyWords.antt has `twenty_words_laws : TwentyWordsLaws`
 pub record TwentyWordsLaws : Type 0 where
   -- each word stands at the place that include/strumok.h names for it
   pub places : words_of numbered ≡ tabulate 20 (λ i. i)
