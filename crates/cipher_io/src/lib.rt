@@ -58,6 +58,7 @@ struct Header {
 }
 
 // Reads the header, as much of it as there is.
+#[tactic(auto, using(crate::proofs::Headers::all_read))]
 fn read_header(input: Stdin) -> Header
     ensures { HeaderRead result.bytes result.count result.stop }
 {

