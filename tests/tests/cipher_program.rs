@@ -261,11 +261,11 @@ fn output_closed_early() {
     let (cipher, mut random) = (Cipher::new(), Random::new(seed()));
     let input = input(&mut random, 32, LIMIT as usize + 1000);
     let must = cipher.cipher_program(&input);
-    // Once with the signal for a broken pipe as usual, once with that signal ignored.
+    // Once with the signal for a broken pipe as usual, which the program's start ignores today, once with that signal ignored before.
     let mut ignoring = Command::new("sh");
     ignoring.args(["-c", "trap '' PIPE; exec \"$0\""]);
     ignoring.arg(program().get_program());
-    for (mut command, must_say) in [(program(), ""), (ignoring, WRITING_FAILED)] {
+    for (mut command, must_say) in [(program(), WRITING_FAILED), (ignoring, WRITING_FAILED)] {
         let input = input.clone();
         let some = |mut output: ChildStdout| {
             let mut written = vec![0; 1000];
