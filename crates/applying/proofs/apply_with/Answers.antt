@@ -13,21 +13,18 @@ pub returns-then-number-ne-ACCEPTED : goal.returns-then-number-ne-ACCEPTED
 returns-then-number-ne-ACCEPTED c = let a = c.args in
     let tests = applying_tests a.s (length a.source.now) (length a.target.now) in record { value = c.refused.ensures ∙ answer_refused tests _ a.s c.advancing_number-number.ensures c.if-number-ne-ACCEPTED.true; target_after = written_refused tests _ a.target.now c.advancing_number-number.ensures c.if-number-ne-ACCEPTED.true }
 
-pub copy-requires : goal.copy-requires
-copy-requires c = let a = c.args in target_length a.s a.source.now a.target.now ((sym c.advancing_number-number.ensures ∙ c.if-number-ne-ACCEPTED.false))
-
 pub slice_bounds-advance-end : goal.slice_bounds-advance-end
 slice_bounds-advance-end c = let a = c.args in
-    copied_length a.s a.source.now a.target.now ((sym c.advancing_number-number.ensures ∙ c.if-number-ne-ACCEPTED.false)) c.copy.ensures
+    copied_length a.s a.source.now a.target.now ((sym c.advancing_number-number.ensures ∙ c.if-number-ne-ACCEPTED.false)) (c.copy.ensures.fits (target_length a.s a.source.now a.target.now (sym c.advancing_number-number.ensures ∙ c.if-number-ne-ACCEPTED.false)))
 
 pub slice_bounds-advance-end-2 : goal.slice_bounds-advance-end-2
 slice_bounds-advance-end-2 c = let a = c.args in
-    sym (ap length (front a.s a.source.now a.target.now ((sym c.advancing_number-number.ensures ∙ c.if-number-ne-ACCEPTED.false)) c.copy.ensures))
+    sym (ap length (front a.s a.source.now a.target.now ((sym c.advancing_number-number.ensures ∙ c.if-number-ne-ACCEPTED.false)) (c.copy.ensures.fits (target_length a.s a.source.now a.target.now (sym c.advancing_number-number.ensures ∙ c.if-number-ne-ACCEPTED.false)))))
 
 pub advance-t-requires : goal.advance-t-requires
 advance-t-requires c = let a = c.args in
-    portion_room a.s a.source.now a.target.now ((sym c.advancing_number-number.ensures ∙ c.if-number-ne-ACCEPTED.false)) c.copy.ensures
+    portion_room a.s a.source.now a.target.now ((sym c.advancing_number-number.ensures ∙ c.if-number-ne-ACCEPTED.false)) (c.copy.ensures.fits (target_length a.s a.source.now a.target.now (sym c.advancing_number-number.ensures ∙ c.if-number-ne-ACCEPTED.false)))
 
 pub returns : goal.returns
 returns c = let r = let a = c.args in
-    portion_accepted a.s a.source.now a.target.now ((sym c.advancing_number-number.ensures ∙ c.if-number-ne-ACCEPTED.false)) c.copy.ensures (next_in a.tables.now Ordinary) c.advance-t.ensures.value c.advance-t.ensures.buffer_after in record { value = r.0; target_after = r.1 }
+    portion_accepted a.s a.source.now a.target.now ((sym c.advancing_number-number.ensures ∙ c.if-number-ne-ACCEPTED.false)) (c.copy.ensures.fits (target_length a.s a.source.now a.target.now (sym c.advancing_number-number.ensures ∙ c.if-number-ne-ACCEPTED.false))) (next_in a.tables.now Ordinary) c.advance-t.ensures.value c.advance-t.ensures.buffer_after in record { value = r.0; target_after = r.1 }

@@ -41,11 +41,8 @@ slice_bounds-key-end-then-leads c = front_le ((record { passed = (sym c.checking
 pub slice_bounds-copy-end : goal.slice_bounds-copy-end
 slice_bounds-copy-end c = front_length ((record { passed = (sym c.checking_number-number.ensures ∙ c.if-number-ne-ACCEPTED.false); walked_back = c.walk_to_loading-t.ensures; recovered = c.recover_key.ensures }))
 
-pub copy-requires : goal.copy-requires
-copy-requires c = omega (arith, front_length ((record { passed = (sym c.checking_number-number.ensures ∙ c.if-number-ne-ACCEPTED.false); walked_back = c.walk_to_loading-t.ensures; recovered = c.recover_key.ensures })))
-
 pub returns-then-leads : goal.returns-then-leads
-returns-then-leads c = let left = check_accepts ((record { passed = (sym c.checking_number-number.ensures ∙ c.if-number-ne-ACCEPTED.false); walked_back = c.walk_to_loading-t.ensures; recovered = c.recover_key.ensures })) c.leads.ensures c.if-leads.true c.copy.ensures in
+returns-then-leads c = let left = check_accepts ((record { passed = (sym c.checking_number-number.ensures ∙ c.if-number-ne-ACCEPTED.false); walked_back = c.walk_to_loading-t.ensures; recovered = c.recover_key.ensures })) c.leads.ensures c.if-leads.true (c.copy.ensures.fits (omega (arith, front_length ((record { passed = (sym c.checking_number-number.ensures ∙ c.if-number-ne-ACCEPTED.false); walked_back = c.walk_to_loading-t.ensures; recovered = c.recover_key.ensures }))))) in
     record {
       value = left.0;
       target_after = left.1;

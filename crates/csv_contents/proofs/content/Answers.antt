@@ -34,18 +34,12 @@ returns-then-part-eq34 c =
     let r = goes_in _ _ _ c.measure-m.ensures (not-false _ c.if-not-m.false) c.if-target-n.false (rw k c.write_quoted.ensures) in
     record { value = r.0; target_after = r.1 }
 
-pub copy-requires : goal.copy-requires
-copy-requires c =
-    let g = c.args in
-    let n : 0 < length g.part.now → get_or g.part.now 0 0 ≡ 34 → ⊥ =
-    λ l q. elim c.if-part-gt0.branch [ then-part-gt0+else-part-eq34 w ↦ w.if-part-eq34.false q | else-part-gt0 w ↦ omega (arith, w.if-part-gt0.false) ] in
-    let r = room _ g.target.now _ c.measure-m.ensures (not-false _ c.if-not-m.false) c.if-target-n.false in
-    omega (arith, r, ap length (plain_content g.part.now n))
-
 pub returns : goal.returns
 returns c =
     let g = c.args in
     let n : 0 < length g.part.now → get_or g.part.now 0 0 ≡ 34 → ⊥ =
     λ l q. elim c.if-part-gt0.branch [ then-part-gt0+else-part-eq34 w ↦ w.if-part-eq34.false q | else-part-gt0 w ↦ omega (arith, w.if-part-gt0.false) ] in
-    let r = goes_in _ _ _ c.measure-m.ensures (not-false _ c.if-not-m.false) c.if-target-n.false (written_plain g.part.now g.target.now _ n c.copy.ensures) in
+    let room_left = room _ g.target.now _ c.measure-m.ensures (not-false _ c.if-not-m.false) c.if-target-n.false in
+    let copied = c.copy.ensures.fits (omega (arith, room_left, ap length (plain_content g.part.now n))) in
+    let r = goes_in _ _ _ c.measure-m.ensures (not-false _ c.if-not-m.false) c.if-target-n.false (written_plain g.part.now g.target.now _ n copied) in
     record { value = r.0; target_after = r.1 }

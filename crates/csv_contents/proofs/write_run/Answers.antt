@@ -12,4 +12,4 @@ pub returns : goal.returns
 returns c =
     let g = c.args in
     let n : length (take (g.k - g.i) (drop g.i g.part.now)) ≡ g.k - g.i = length-take-le (g.k - g.i) (drop g.i g.part.now) (omega (arith, length-drop g.i g.part.now)) in
-    copied_run g.target.now (take (g.k - g.i) (drop g.i g.part.now)) _ g.o (omega arith) c.copy.ensures ∙ ap (λ (m : ℕ). take g.o g.target.now ++ (take (g.k - g.i) (drop g.i g.part.now) ++ drop (g.o + m) g.target.now)) n
+    copied_run g.target.now (take (g.k - g.i) (drop g.i g.part.now)) _ g.o (omega arith) (c.copy.ensures.fits (omega (arith, n, length-drop g.o g.target.now, length-take-le (length g.target.now - g.o) (drop g.o g.target.now) (omega (arith, length-drop g.o g.target.now))))) ∙ ap (λ (m : ℕ). take g.o g.target.now ++ (take (g.k - g.i) (drop g.i g.part.now) ++ drop (g.o + m) g.target.now)) n
