@@ -1,46 +1,42 @@
-// What all calls share: the answer, the last position, the tests of a state, and what a refusal gives back.
+// What all calls share: a refused call's error, the last position, and the tests of a state.
 #![tactic(auto)]
 
-ghost use Rattle.std.specs.Prelude.{◌≡◌};
+ghost use Rattle.refusals.specs.Refusals.{number_of};
 ghost use Rattle.refusals.specs.Tests.{returned};
+ghost use Rattle.std.specs.Prelude.{◌≡◌};
 ghost use Rattle.answers.specs.Tests.{state_tests};
 
 use generator::State;
-use refusals::numbers;
+use refusals::Refusal;
 
 // The last byte position.
 pub const LIMIT: u64 = 16777216;
 
-// The number of the refusal, 0 where the call is accepted, and the state.
+// Why a call is refused, and the state that it gives back.
 #[derive(Clone, Copy)]
-pub struct Answer {
-    pub number: u64,
+pub struct Refused {
+    pub refusal: Refusal,
     pub state: State,
 }
 
-// 3 or 4 where a state is not well-formed, else 0.
-pub fn state_number(s: State) -> u64
-    ensures { result ≡ returned (state_tests s) }
+// Whether a state is well-formed: 3 or 4 where it is not.
+pub fn check_state(s: State) -> Result<(), Refusal>
+    ensures { number_of result ≡ returned (state_tests s) }
 {
-    let size = s.size;
-    match size {
+    match s.size {
         256 | 512 => {
             if s.position > LIMIT {
-                numbers::REFUSED_POSITION_ABOVE
-            } else {
-                numbers::ACCEPTED
+                return Err(Refusal::PositionAbove);
             }
+            Ok(())
         }
-        _ => numbers::REFUSED_SIZE_MARK,
+        _ => Err(Refusal::SizeMark),
     }
 }
 
-// A refusal: its number, and the state as it came.
-pub fn refused(number: u64, s: State) -> Answer
-    ensures { result ≡ record { number = number; state = s } }
+// A refusal, with the state as it came.
+pub fn refuse(refusal: Refusal, s: State) -> Refused
+    ensures { result ≡ record { refusal = refusal; state = s } }
 {
-    Answer {
-        number: number,
-        state: s,
-    }
+    Refused { refusal, state: s }
 }

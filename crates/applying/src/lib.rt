@@ -1,19 +1,22 @@
 // Applying the keystream from a source to a target, and over a window of one buffer: with tables that the caller lends, or with the cipher's.
+// Source and target, and a window's buffer, start and count, are parameters of their own, as README and the header for C have them.
 #![tactic(auto)]
 
-ghost use Rattle.std.specs.Prelude.{◌≡◌, ◌+◌, ◌≤◌, ltb, length};
+ghost use Rattle.std.specs.Prelude.{◌≡◌, ◌+◌, ◌≤◌, [], ◌∷◌, pos, length};
 ghost use Rattle.generator.specs.declared.Kind.TheVariants.{Ordinary};
 ghost use Rattle.generator.specs.Functions.{next_in};
+ghost use Rattle.refusals.specs.Refusals.{number_of};
 ghost use Rattle.refusals.specs.Tests.{returned};
-ghost use Rattle.answers.specs.Tests.{limit};
-ghost use Rattle.applying.specs.Applying.{advancing_tests, applied, applied_target, windowed, windowed_buffer};
+ghost use Rattle.answers.specs.Answers.{answered};
+ghost use Rattle.answers.specs.Tests.{limit, new_position, new_position_above_test};
+ghost use Rattle.applying.specs.Applying.{applying_tests, applied, applied_target, window_tests, windowed, windowed_buffer};
 ghost use Rattle.applying.specs.AnyStep.{advanced_by, with_keystream_by, applied_by, applied_target_by, windowed_by, windowed_buffer_by};
 
-use answers::{Answer, LIMIT, refused, state_number};
+use answers::{LIMIT, Refused, check_state, refuse};
 use columns::step_tables;
 use generator::State;
 use keystream::apply_keystream;
-use refusals::numbers;
+use refusals::Refusal;
 
 // The keystream over the whole buffer, in place, by the tables that are lent, and the state moved on by its length.
 fn advance(s: State, tables: &[[u64; 256]; 10], buffer: &mut [u8]) -> State
@@ -27,63 +30,69 @@ fn advance(s: State, tables: &[[u64; 256]; 10], buffer: &mut [u8]) -> State
     t
 }
 
-// 3 or 4, the refusal where the buffers do not fit, or 7 where n bytes on there is no position, in this order; else 0.
-fn advancing_number(s: State, misfit: bool, refusal: u64, n: u64) -> u64
-    ensures { result ≡ returned (advancing_tests s (record { number = refusal; applies = misfit }) n) }
+// Whether there is a position n bytes on: 7 where there is none.
+fn check_count(s: State, n: usize) -> Result<(), Refusal>
+    ensures { number_of result ≡ returned (new_position_above_test (new_position s (pos n)) ∷ []) }
 {
-    let number = state_number(s);
-    if number != numbers::ACCEPTED {
-        return number;
+    if s.position.saturating_add(n as u64) > LIMIT {
+        return Err(Refusal::NewPositionAbove);
     }
-    if misfit {
-        return refusal;
-    }
-    if n > LIMIT - s.position {
-        return numbers::REFUSED_NEW_POSITION_ABOVE;
-    }
-    numbers::ACCEPTED
+    Ok(())
 }
+
+// Portions and windows test by `if let`: with `map_err(..)?`, which moves states more often, and one pair of number and state in `twenty_words::leave`, a
+// portion of 16 bytes took twice the instructions.
 
 // ---- from a source to a target
 
+// Whether a source of n bytes may be applied to a target of len: 3, 4, 5 or 7, in this order, where it may not.
+fn check_portion(s: State, n: usize, len: usize) -> Result<(), Refusal>
+    ensures { number_of result ≡ returned (applying_tests s n len) }
+{
+    check_state(s)?;
+    if n > len {
+        return Err(Refusal::TargetShorter);
+    }
+    check_count(s, n)
+}
+
 // The same as `apply`, by the tables that are lent: `columns::step_tables` has the cipher's.
-pub fn apply_with(s: State, tables: &[[u64; 256]; 10], source: &[u8], target: &mut [u8]) -> Answer
-    ensures value { result ≡ applied_by (next_in tables.now Ordinary) s source.now target.old }
+pub fn apply_with(
+    s: State,
+    tables: &[[u64; 256]; 10],
+    source: &[u8],
+    target: &mut [u8],
+) -> Result<State, Refused>
+    ensures value { answered result ≡ applied_by (next_in tables.now Ordinary) s source.now target.old }
     ensures target_after { target.new ≡ applied_target_by (next_in tables.now Ordinary) s source.now target.old }
 {
     let n = source.len();
-    let short = n > target.len();
-    let number = advancing_number(s, short, numbers::REFUSED_TARGET_SHORTER, n as u64);
-    if number != numbers::ACCEPTED {
-        return refused(number, s);
+    if let Err(refusal) = check_portion(s, n, target.len()) {
+        return Err(refuse(refusal, s));
     }
     copying::copy(source, target);
-    let t = advance(s, tables, &mut target[..n]);
-    Answer {
-        number: numbers::ACCEPTED,
-        state: t,
-    }
+    Ok(advance(s, tables, &mut target[..n]))
 }
 
 // The source with the keystream applied, to the front of the target; or a refusal, with the state as it came and nothing written.
-pub fn apply(s: State, source: &[u8], target: &mut [u8]) -> Answer
-    ensures value { result ≡ applied s source.now target.old }
+pub fn apply(s: State, source: &[u8], target: &mut [u8]) -> Result<State, Refused>
+    ensures value { answered result ≡ applied s source.now target.old }
     ensures target_after { target.new ≡ applied_target s source.now target.old }
 {
-    let tables = step_tables();
-    apply_with(s, &tables, source, target)
+    apply_with(s, step_tables(), source, target)
 }
 
 // ---- the window
 
-// Whether start + count is above len, as whole numbers: no sum is made that could overflow.
-fn past_end(len: usize, start: usize, count: usize) -> bool
-    ensures { result ≡ ltb len (start + count) }
+// Whether a window of a buffer of len bytes may be worked over: 3, 4, 6 or 7, in this order, where it may not.
+fn check_window(s: State, len: usize, start: usize, count: usize) -> Result<(), Refusal>
+    ensures { number_of result ≡ returned (window_tests s len start count) }
 {
-    if start > len {
-        return true;
+    check_state(s)?;
+    match start.checked_add(count) {
+        Some(end) if end <= len => check_count(s, count),
+        _ => Err(Refusal::WindowPastEnd),
     }
-    count > len - start
 }
 
 // The same as `window`, by the tables that are lent: `columns::step_tables` has the cipher's.
@@ -93,28 +102,20 @@ pub fn window_with(
     buffer: &mut [u8],
     start: usize,
     count: usize,
-) -> Answer
-    ensures value { result ≡ windowed_by (next_in tables.now Ordinary) s buffer.old start count }
+) -> Result<State, Refused>
+    ensures value { answered result ≡ windowed_by (next_in tables.now Ordinary) s buffer.old start count }
     ensures buffer_after { buffer.new ≡ windowed_buffer_by (next_in tables.now Ordinary) s buffer.old start count }
 {
-    let past = past_end(buffer.len(), start, count);
-    let number = advancing_number(s, past, numbers::REFUSED_WINDOW_PAST_END, count as u64);
-    if number != numbers::ACCEPTED {
-        return refused(number, s);
+    if let Err(refusal) = check_window(s, buffer.len(), start, count) {
+        return Err(refuse(refusal, s));
     }
-    let end = start + count;
-    let t = advance(s, tables, &mut buffer[start..end]);
-    Answer {
-        number: numbers::ACCEPTED,
-        state: t,
-    }
+    Ok(advance(s, tables, &mut buffer[start..start + count]))
 }
 
 // The keystream over count bytes of the buffer from start on, the others kept; or a refusal, with the state as it came and nothing written.
-pub fn window(s: State, buffer: &mut [u8], start: usize, count: usize) -> Answer
-    ensures value { result ≡ windowed s buffer.old start count }
+pub fn window(s: State, buffer: &mut [u8], start: usize, count: usize) -> Result<State, Refused>
+    ensures value { answered result ≡ windowed s buffer.old start count }
     ensures buffer_after { buffer.new ≡ windowed_buffer s buffer.old start count }
 {
-    let tables = step_tables();
-    window_with(s, &tables, buffer, start, count)
+    window_with(s, step_tables(), buffer, start, count)
 }

@@ -5,11 +5,10 @@ ghost use Rattle.std.specs.Prelude.{◌≡◌};
 ghost use Rattle.galois.specs.Words.{at};
 ghost use Rattle.loading.specs.Loading.{rows256, rows512, loaded_cells, load};
 
-use loading::{eight_words, four_words};
+use loading::words;
 
-const ONES: u64 = 0xFFFFFFFFFFFFFFFF;
-
-// The cells of a 256-bit key and an IV, s0 first.
+// The cells of a 256-bit key and an IV, s0 first. Document 01 has a table of cells for each size, and each table a function here that says it cell by cell:
+// one function over rows would need the rows as values, and say no less.
 fn cells_256(k: [u64; 4], v: [u64; 4]) -> [u64; 16]
     ensures { result ≡ loaded_cells rows256 (at k) (at v) }
 {
@@ -20,16 +19,16 @@ fn cells_256(k: [u64; 4], v: [u64; 4]) -> [u64; 16]
         k[0] ^ v[2],
         k[3],
         k[2] ^ v[3],
-        k[1] ^ ONES,
-        k[0] ^ ONES,
+        !k[1],
+        !k[0],
         k[3],
         k[2],
-        k[1] ^ ONES,
+        !k[1],
         k[0],
         k[3],
-        k[2] ^ ONES,
+        !k[2],
         k[1],
-        k[0] ^ ONES,
+        !k[0],
     ]
 }
 
@@ -45,14 +44,14 @@ fn cells_512(k: [u64; 8], v: [u64; 4]) -> [u64; 16]
         k[3],
         k[2] ^ v[2],
         k[1],
-        k[0] ^ ONES,
+        !k[0],
         k[4] ^ v[3],
-        k[6] ^ ONES,
+        !k[6],
         k[5],
-        k[7] ^ ONES,
+        !k[7],
         k[3],
         k[2],
-        k[1] ^ ONES,
+        !k[1],
         k[0],
     ]
 }
@@ -61,12 +60,10 @@ fn cells_512(k: [u64; 8], v: [u64; 4]) -> [u64; 16]
 pub fn load_cells(key: &[u8], iv: &[u8]) -> [u64; 16]
     ensures { result ≡ (load key.now iv.now).cells }
 {
-    let v = four_words(iv);
+    let v = words(iv);
     if key.len() == 32 {
-        let k = four_words(key);
-        cells_256(k, v)
+        cells_256(words(key), v)
     } else {
-        let k = eight_words(key);
-        cells_512(k, v)
+        cells_512(words(key), v)
     }
 }

@@ -2,51 +2,33 @@
 use mathlib.Core.Path.{◌≡◌, refl, sym, ap, ap₂, ◌∙◌}
 use mathlib.Core.Logic.{◌⊎◌}
 use mathlib.Core.Bool.{Bool, true, false, true≢false, cond, not, ◌&&◌}
-use mathlib.Core.List.{List, [], ◌∷◌, ◌++◌, append-nil}
-use Prim.Native.Nat.{ℕ, suc, ◌/◌, ◌<◌, ◌≤◌}
+use mathlib.Core.List.{List, [], ◌∷◌, ◌++◌}
+use Prim.Native.Nat.{ℕ, ◌/◌, ◌≤◌}
 use native.Mathlib.Omega.{arith}
-use borrow.Author.Tests.{eq-eqb, ne_eqb, eqb-true, not-false}
+use borrow.Author.Tests.{eq-eqb, eqb-true, not-false}
 use lib.Dec.{eqb}
-use lib.ListN.{length, replicate, take, drop, length-append, drop_of_length-le}
-use lib.Seq.{length-take-le, drop-length, take_at, drop-cons}
-use Rattle.galois.specs.Words.{at}
+use lib.Pointwise.{pointwise}
+use lib.ListN.{length, replicate, take, drop}
+use lib.Seq.{length-take-le, take_at}
 use Rattle.generator.specs.declared.State.{State}
 use Rattle.generator.specs.Registers.{Registers, registers_of, with_registers}
 use Rattle.loading.specs.Loading.{load}
 use Rattle.loading.specs.Recovery.{recovered_key}
 use Rattle.loading.proofs.LoadingLaws.{loading_laws}
 use Rattle.refusals.specs.Tests.{Test, returned}
-use Rattle.refusals.specs.Numbers.{accepted, refused_iv_length, refused_key_target_length, refused_no_key_leads}
-use Rattle.answers.specs.declared.Answer.{Answer}
+use Rattle.refusals.specs.Numbers.{accepted, refused_no_key_leads}
+use Rattle.answers.specs.Answers.{Answer}
 use Rattle.answers.specs.Tests.{iv_length_test, size_mark_test, position_test, key_target_test, state_tests, WellFormed}
 use Rattle.checking.specs.Checking.{loaded_of, key_of, same_words, same_registers, key_leads, no_key_leads_test, tests_before10, checking_tests, checked, checked_target}
 use Rattle.opening.specs.Opening.{opening_accepts}
 use Rattle.opening.proofs.Opened.{key_of_size, key_le}
-use Rattle.refusals.proofs.Tests.{and_parts, is_one_of, returned_first, returned_rest, returned_none, written_refused, written_accepted}
+use Rattle.refusals.proofs.Tests.{and_parts, is_one_of, returned_rest, returned_none, written_refused, written_accepted}
 use Rattle.answers.proofs.Tests.{answer_refused, answer_accepted}
 
 -- ---- the tests that ask nothing of the registers
 
-module _ (s : State) (iv : List ℕ) (len : ℕ) where
-  pub iv_misfit : (length iv ≡ 32 → ⊥) → returned (tests_before10 s iv len) ≡ refused_iv_length
-  iv_misfit h = rw (ne_eqb (length iv) 32 h)
-
-  module _ (l : length iv ≡ 32) where
-    past_iv : returned (tests_before10 s iv len) ≡ returned (state_tests s ++ (key_target_test s len ∷ []))
-    past_iv = rw l
-
-    pub stored_ill_formed : (returned (state_tests s) ≡ accepted → ⊥) → returned (tests_before10 s iv len) ≡ returned (state_tests s)
-    stored_ill_formed h = past_iv ∙ returned_first (state_tests s) (key_target_test s len ∷ []) h
-
-    module _ (ok : WellFormed s) where
-      past_state : returned (tests_before10 s iv len) ≡ returned (key_target_test s len ∷ [])
-      past_state = past_iv ∙ returned_rest (state_tests s) (key_target_test s len ∷ []) tt ok
-
-      pub target_misfit : (len ≡ s.size / 8 → ⊥) → returned (tests_before10 s iv len) ≡ refused_key_target_length
-      target_misfit h = past_state ∙ rw (ne_eqb len (s.size / 8) h)
-
-      pub all_fit : len ≡ s.size / 8 → returned (tests_before10 s iv len) ≡ accepted
-      all_fit e = past_state ∙ rw (eq-eqb len (s.size / 8) e)
+pub all_fit : (s : State) (iv : List ℕ) (len : ℕ) → length iv ≡ 32 → WellFormed s → len ≡ s.size / 8 → returned (tests_before10 s iv len) ≡ accepted
+all_fit s iv len l ok e = rw l (returned_rest (state_tests s) (key_target_test s len ∷ []) tt ok ∙ rw (eq-eqb len (s.size / 8) e))
 
 -- where none of them applies
 pub record Checkable (s : State) (iv : List ℕ) (len : ℕ) : Type 0 where
@@ -93,36 +75,32 @@ pub same_registers_lem : (a b : Registers) → a ≡ b → same_registers a b �
 unfolding same_registers
 same_registers_lem a b e = rw (← e) (rw (eq-eqb a.r1 a.r1 refl, eq-eqb a.r2 a.r2 refl) (same_words_lem a.cells))
 
--- ---- the loop over the cells
-
-module _ (xs ys : List ℕ) (i : ℕ) (hx : i < length xs) (hy : i < length ys) where
-  at_place : same_words (drop i xs) (drop i ys) ≡ (eqb (at xs i) (at ys i) && same_words (drop (suc i) xs) (drop (suc i) ys))
-  at_place = rw (drop-cons xs i 0 hx, drop-cons ys i 0 hy)
-
-  pub place_differs : (at xs i ≡ at ys i → ⊥) → same_words (drop i xs) (drop i ys) ≡ false
-  place_differs h = at_place ∙ rw (ne_eqb (at xs i) (at ys i) h)
-
-  pub place_same : at xs i ≡ at ys i → same_words (drop i xs) (drop i ys) ≡ same_words (drop (suc i) xs) (drop (suc i) ys)
-  place_same e = at_place ∙ rw (eq-eqb (at xs i) (at ys i) e)
-
-pub places_end : (xs ys : List ℕ) (i : ℕ) → length xs ≤ i → length ys ≤ i → same_words (drop i xs) (drop i ys) ≡ true
-places_end xs ys i hx hy = rw (drop_of_length-le xs {i = i} hx, drop_of_length-le ys {i = i} hy)
-
 -- ---- a comparison with a loading
 
-module _ (t : State) (key iv : List ℕ) where
-  pub r1_differs : (t.r1 ≡ 0 → ⊥) → false ≡ same_registers (load key iv) (registers_of t)
+all_three : (a b c : Bool) → ((a && (b && true)) && c) ≡ (a && (b && c))
+all_three true true c = refl
+all_three true false c = refl
+all_three false b c = refl
+
+-- the comparison of two arrays, word by word
+words_compared : (xs ys : List ℕ) → pointwise eqb xs ys ≡ same_words xs ys
+words_compared [] [] = refl
+words_compared [] (y ∷ ys) = refl
+words_compared (x ∷ xs) [] = refl
+words_compared (x ∷ xs) (y ∷ ys) = ap (λ (b : Bool). eqb x y && b) (words_compared xs ys)
+
+-- the registers first, and then the cells
+module _ (t : State) (key iv : List ℕ) {x : Bool} (ex : x ≡ (eqb 0 t.r1 && (eqb 0 t.r2 && true))) where
+  both_compared : {y : Bool} → y ≡ same_words (load key iv).cells t.cells → (x && y) ≡ same_registers (load key iv) (registers_of t)
   unfolding same_registers load
-  r1_differs h = sym (rw (ne_eqb 0 t.r1 (λ e. h (sym e))))
+  both_compared ey = rw (ex, ey) (all_three (eqb 0 t.r1) (eqb 0 t.r2) (same_words (load key iv).cells t.cells))
 
-  module _ (e : t.r1 ≡ 0) where
-    pub r2_differs : (t.r2 ≡ 0 → ⊥) → false ≡ same_registers (load key iv) (registers_of t)
-    unfolding same_registers load
-    r2_differs h = sym (rw (e, ne_eqb 0 t.r2 (λ z. h (sym z))))
+  pub registers_differ : x ≡ false → x ≡ same_registers (load key iv) (registers_of t)
+  registers_differ e = e ∙ ap (λ (b : Bool). b && same_words (load key iv).cells t.cells) (sym e) ∙ both_compared refl
 
-    pub cells_decide : t.r2 ≡ 0 → same_words (load key iv).cells t.cells ≡ same_registers (load key iv) (registers_of t)
-    unfolding same_registers load
-    cells_decide z = sym (rw (e, z))
+  pub cells_decide : {cells : List ℕ} {y : Bool} → x ≡ true → cells ≡ (load key iv).cells → y ≡ pointwise eqb cells t.cells → y ≡ same_registers (load key iv) (registers_of t)
+  cells_decide {cells} {y} e loaded ey =
+      ap (λ (b : Bool). b && y) (sym e) ∙ both_compared (ey ∙ words_compared cells t.cells ∙ ap (λ (l : List ℕ). same_words l t.cells) loaded)
 
 -- ---- the answer
 
@@ -137,11 +115,6 @@ module _ (s : State) (iv target : List ℕ) where
   -- what the code leaves: its answer and the target
   abbrev Left : Answer → List ℕ → Type 0
   Left r ys = (r ≡ checked s iv target) × (ys ≡ checked_target s iv target)
-
-  pub refused_before_10 : {n : ℕ} → n ≡ returned (tests_before10 s iv (length target)) → (n ≡ accepted → ⊥) → Left (record { number = n; state = s }) target
-  refused_before_10 e h =
-      let first = e ∙ sym (returned_first (tests_before10 s iv (length target)) (no_key_leads_test s iv ∷ []) (λ z. h (e ∙ z))) in
-      (answer_refused tests s s first h, written_refused tests (key_of s iv) target first h)
 
   module _ (passed : returned (tests_before10 s iv (length target)) ≡ accepted) where
     fits : Checkable s iv (length target)
@@ -185,24 +158,16 @@ module _ {s : State} {iv target : List ℕ} {t : State} {ys : List ℕ} (r : Rec
   front_is : front ≡ ys
   front_is = take_at ys (drop (length target) room) (length target) key_length
 
-  pub front_le : length target ≤ length held
-  front_le = omega (arith, length-append ys (drop (length target) room), key_length)
-
-  pub front_length : length target ≡ length front
-  front_length = sym (ap length front_is ∙ key_length)
-
   module _ {b : Bool} (eb : b ≡ (same_registers (load front iv) (registers_of t) && opening_accepts front iv)) where
-    compared : key_leads s iv ≡ b
-    compared = sym (eb ∙ ap₂ (λ (key : List ℕ) (x : State). same_registers (load key iv) (registers_of x) && opening_accepts key iv) (front_is ∙ key_is) r.walked_back)
+    decides : key_leads s iv ≡ b
+    decides = sym (eb ∙ ap₂ (λ (key : List ℕ) (x : State). same_registers (load key iv) (registers_of x) && opening_accepts key iv) (front_is ∙ key_is) r.walked_back)
 
-    pub check_accepts : {left : List ℕ} → b ≡ true → left ≡ front ++ drop (length front) target → Left s iv target (record { number = accepted; state = s }) left
+    pub check_accepts : {left : List ℕ} → b ≡ true → left ≡ front → Left s iv target (record { number = accepted; state = s }) left
     check_accepts {left} e el =
-        let zero : returned (tests s iv target) ≡ accepted = decided s iv target r.passed (compared ∙ e) in
-        let rest : drop (length front) target ≡ [] = ap (λ (n : ℕ). drop n target) (sym front_length) ∙ drop-length target in
-        let copied : left ≡ key_of s iv = el ∙ ap (λ (l : List ℕ). front ++ l) rest ∙ append-nil front ∙ front_is ∙ key_is in
-        (answer_accepted (tests s iv target) s s zero refl, written_accepted (tests s iv target) (key_of s iv) target zero copied)
+        let zero : returned (tests s iv target) ≡ accepted = decided s iv target r.passed (decides ∙ e) in
+        (answer_accepted (tests s iv target) s s zero refl, written_accepted (tests s iv target) (key_of s iv) target zero (el ∙ front_is ∙ key_is))
 
     pub check_refuses : b ≡ false → Left s iv target (record { number = refused_no_key_leads; state = s }) target
     check_refuses e =
-        let ten : refused_no_key_leads ≡ returned (tests s iv target) = sym (decided s iv target r.passed (compared ∙ e)) in
+        let ten : refused_no_key_leads ≡ returned (tests s iv target) = sym (decided s iv target r.passed (decides ∙ e)) in
         (answer_refused (tests s iv target) s s ten (λ z. omega arith), written_refused (tests s iv target) (key_of s iv) target ten (λ z. omega arith))

@@ -6,55 +6,56 @@ ghost use Rattle.std.specs.Prelude.{◌≡◌};
 ghost use Rattle.checking.specs.Checking.{checked_target};
 
 use generator::State;
-use printing::{end_with, named, number};
+use printing::{Bytes, Out, number_and_state};
+use std::fmt;
+use std::fmt::{Display, Write};
 use strumok::check;
 use trials::{opened_at, tables};
 
 // A check into this key target.
-fn check_into(name: &[u8], s: State, iv: &[u8], key: &mut [u8])
+fn check_into(
+    out: &mut Out,
+    name: impl Display + Drop,
+    s: State,
+    iv: &[u8],
+    key: &mut [u8],
+) -> fmt::Result
     ensures { key.new ≡ checked_target s iv.now key.old }
 {
-    let a = check(s, iv, key);
-    named(s.size, name);
-    number(a.number);
-    end_with(key);
+    let (number, _) = number_and_state(check(s, iv, key));
+    writeln!(out, "{} check {name}: {number} {}", s.size, Bytes(key))
 }
 
-// A check with a key target of the state's size.
-fn check_state(name: &[u8], s: State, iv: &[u8]) {
-    if s.size == 256 {
-        let mut key = [255u8; 32];
-        check_into(name, s, iv, &mut key);
-    } else {
-        let mut key = [255u8; 64];
-        check_into(name, s, iv, &mut key);
-    }
-}
-
-// The check of the state of key and IV at a position.
-fn check_at(name: &[u8], key: &[u8], iv: &[u8], position: i64) {
-    let s = opened_at(key, iv, position);
-    check_state(name, s, iv);
+// A check with a key target of the state's size, all FF.
+fn check_state(out: &mut Out, name: impl Display + Drop, s: State, iv: &[u8]) -> fmt::Result {
+    let length = if s.size == 256 { 32 } else { 64 };
+    check_into(out, name, s, iv, &mut [255; 64][..length])
 }
 
 // The checks of a key's size.
-fn checks(key: &[u8], iv: &[u8]) {
-    check_at(b"check at 0: ", key, iv, 0);
-    check_at(b"check at 1: ", key, iv, 1);
-    check_at(b"check at 7: ", key, iv, 7);
-    check_at(b"check at 8: ", key, iv, 8);
-    check_at(b"check at 16777216: ", key, iv, 16777216);
+fn checks(out: &mut Out, key: &[u8], iv: &[u8]) -> fmt::Result {
+    for position in [0, 1, 7, 8, 16777216] {
+        check_state(
+            out,
+            format_args!("at {position}"),
+            opened_at(key, iv, position),
+            iv,
+        )?;
+    }
     let s = opened_at(key, iv, 8);
     let mut changed = s;
-    changed.r1 = s.r1 ^ 1;
-    check_state(b"check at 8 with bit 0 of r1 changed: ", changed, iv);
-    let other = tables::OTHER_IV;
-    check_state(b"check at 8 with another IV: ", s, &other);
+    changed.r1 ^= 1;
+    check_state(out, "at 8 with bit 0 of r1 changed", changed, iv)?;
+    check_state(out, "at 8 with another IV", s, &tables::other_iv())
+}
+
+fn print_all(out: &mut Out) -> fmt::Result {
+    let (key, iv) = (tables::key(), tables::iv());
+    checks(out, &key[..32], &iv)?;
+    checks(out, &key[..64], &iv)
 }
 
 fn main() {
-    let key = tables::KEY;
-    let iv = tables::IV;
-    checks(&key[..32], &iv);
-    checks(&key[..64], &iv);
+    // A write that fails is passed over, as `Out` does.
+    let _ = print_all(&mut Out);
 }

@@ -2,5 +2,6 @@
 #![tactic(auto)]
 
 fn main(rt: HostRuntime) {
-    cipher_io::run(&rt);
+    // A refusal was written, and is no failure of the program.
+    let _ = cipher_io::run(&rt);
 }

@@ -1,3 +1,2 @@
 -- What the proofs of the cipher program share.
 pub mod Pieces
-pub mod Headers

@@ -1,2 +1,3 @@
 -- What the contracts of the cipher program say.
 pub mod Passing
+pub mod Stops

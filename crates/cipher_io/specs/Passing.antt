@@ -3,12 +3,12 @@
 use Rattle.std.specs.Prelude.{◌≡◌, List, [], ◌++◌, ℕ, ◌+◌, ◌-◌, ◌<◌, ◌≤◌, min, length, take}
 use Rattle.generator.specs.declared.State.{State}
 use Rattle.refusals.specs.Numbers.{accepted}
-use Rattle.answers.specs.declared.Answer.{Answer}
+use Rattle.answers.specs.Answers.{Answer}
 use Rattle.answers.specs.Tests.{limit}
 use Rattle.applying.specs.Applying.{windowed, windowed_buffer}
 use Rattle.framing.specs.Framing.{key_length_in, started, after_pieces, joined}
 
--- nothing has stopped the program; a write failed; the same numbers are in src/stops.rt
+-- nothing has stopped the program; a write failed; specs/Stops.antt has the other numbers
 abbrev pub going_on : ℕ
 going_on = 0
 

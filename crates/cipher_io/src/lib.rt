@@ -6,205 +6,140 @@ mod stops;
 
 ghost use Rattle.std.specs.Prelude.{◌≡◌, ◌<◌, length};
 ghost use Rattle.refusals.specs.Numbers.{accepted};
+ghost use Rattle.answers.specs.Answers.{answered};
 ghost use Rattle.answers.specs.Tests.{limit};
 ghost use Rattle.applying.specs.Applying.{windowed, windowed_buffer};
 ghost use Rattle.cipher_io.specs.Passing.{going_on, writing_failed, ReadOnce, HeaderRead, PiecePassed, DataPassed, Ran};
+ghost use Rattle.cipher_io.specs.Stops.{stop_number, stop_of, count_of};
 
-use answers::{Answer, LIMIT};
+use answers::{LIMIT, Refused};
 use applying::window;
 use framing::{LONGEST_HEADER, header_lacks, refusal_line, room, start};
 use generator::State;
-use refusals::numbers;
-use std::io::{Read, Stdin};
+use refusals::Refusal;
+use std::io::Read;
+use stops::Stop;
 
-// Standard output and standard error.
-const STDOUT: i32 = 1;
-
-const STDERR: i32 = 2;
-
-// How many bytes were read, and why no more were.
-#[derive(Clone, Copy)]
-struct Got {
-    count: usize,
-    stop: u64,
-}
+// The bytes of the buffer that the data pass through.
+const BUFFER_BYTES: usize = 65536;
 
 // Reads once, as many bytes as come.
-fn read_once(mut input: Stdin, buffer: &mut [u8]) -> Got
-    ensures { ReadOnce buffer.new result.count result.stop }
+fn read_once(rt: &HostRuntime, buffer: &mut [u8]) -> Result<usize, Stop>
+    ensures { ReadOnce buffer.new (count_of result) (stop_of result) }
 {
-    match input.read(buffer) {
-        Ok(0) => Got {
-            count: 0,
-            stop: stops::INPUT_ENDED,
-        },
-        Ok(n) => Got {
-            count: n,
-            stop: stops::GOING_ON,
-        },
-        Err(_) => Got {
-            count: 0,
-            stop: stops::READING_FAILED,
-        },
+    match rt.stdin().read(buffer) {
+        Ok(0) => Err(Stop::InputEnded),
+        Ok(n) => Ok(n),
+        Err(_) => Err(Stop::ReadingFailed),
     }
 }
 
-// A header at the front of an array, with its length, and why no more of it was read.
-#[derive(Clone, Copy)]
-struct Header {
-    bytes: [u8; 288],
-    count: usize,
-    stop: u64,
-}
-
-// Reads the header, as much of it as there is.
-#[tactic(auto, using(crate::proofs::Headers::all_read))]
-fn read_header(input: Stdin) -> Header
-    ensures { HeaderRead result.bytes result.count result.stop }
+// Reads the header to the front of an array, as much of it as there is: how many bytes, and why no more of it was read.
+// A loop of reads: `HeaderRead` has how many bytes came, which `read_exact` does not say where the input ends.
+fn read_header(rt: &HostRuntime, header: &mut [u8; LONGEST_HEADER]) -> (usize, Result<(), Stop>)
+    ensures { HeaderRead header.new result.0 (stop_of result.1) }
 {
-    let mut bytes: [u8; 288] = [0; LONGEST_HEADER];
-    let mut count: usize = 0;
-    let mut lack: usize = 1;
-    let mut stop = stops::GOING_ON;
-    while stop == stops::GOING_ON && lack > 0 {
+    let mut count = 0;
+    loop {
+        let lack = header_lacks(&header[..count]);
+        if lack == 0 {
+            return (count, Ok(()));
+        }
         let end = count + lack;
-        let got = read_once(input, &mut bytes[count..end]);
-        stop = got.stop;
-        count += got.count;
-        lack = header_lacks(&bytes[..count]);
+        match read_once(rt, &mut header[count..end]) {
+            Ok(n) => count += n,
+            Err(stop) => return (count, Err(stop)),
+        }
     }
-    Header { bytes, count, stop }
 }
 
-// Writes the line of a refusal, and answers whether that failed.
-fn write_refusal(number: u64) -> u64
-    ensures { (result ≡ going_on → ⊥) → result ≡ writing_failed }
+// Writes the line of a refusal.
+fn write_refusal(rt: &HostRuntime, refusal: Refusal) -> Result<(), Stop>
+    ensures { (stop_of result ≡ going_on → ⊥) → stop_of result ≡ writing_failed }
 {
-    let line = refusal_line(number);
-    let bytes = line.bytes;
-    let n = line.count;
-    if io::write_all(STDOUT, &bytes[..n]) {
-        stops::GOING_ON
-    } else {
-        stops::WRITING_FAILED
-    }
-}
-
-// The state after a piece, and why the program goes no further.
-#[derive(Clone, Copy)]
-struct Turn {
-    state: State,
-    stop: u64,
+    rt.print(refusal_line(refusal.number()))
+        .map_err(|_| Stop::WritingFailed)
 }
 
 // Writes the piece with the keystream applied; where the window call refuses it, nothing.
-fn write_piece(s: State, piece: &mut [u8]) -> Turn
-    ensures state_value { result.state ≡ (windowed s piece.old 0 (length piece.old)).state }
-    ensures piece_value { result.stop ≡ going_on → (windowed s piece.old 0 (length piece.old)).number ≡ accepted }
+fn write_piece(rt: &HostRuntime, s: State, piece: &mut [u8]) -> (State, Result<(), Stop>)
+    ensures state_value { result.0 ≡ (windowed s piece.old 0 (length piece.old)).state }
+    ensures piece_value { stop_of result.1 ≡ going_on → (windowed s piece.old 0 (length piece.old)).number ≡ accepted }
     ensures piece_after { piece.new ≡ windowed_buffer s piece.old 0 (length piece.old) }
 {
     let n = piece.len();
-    let answer = window(s, piece, 0, n);
-    let t = answer.state;
-    if answer.number == numbers::ACCEPTED && io::write_all(STDOUT, piece) {
-        return Turn {
-            state: t,
-            stop: stops::GOING_ON,
-        };
-    }
-    Turn {
-        state: t,
-        stop: stops::WRITING_FAILED,
+    match window(s, piece, 0, n) {
+        Ok(t) => (t, rt.write_all(piece).map_err(|_| Stop::WritingFailed)),
+        Err(refused) => (refused.state, Err(Stop::WritingFailed)),
     }
 }
 
 // Reads a piece to the front of the buffer, no further than the last position, and writes it with the keystream applied.
-fn pass_piece(input: Stdin, s: State, buffer: &mut [u8]) -> Turn
-    ensures { PiecePassed s (length buffer.old) buffer.new result.state result.stop }
+#[tactic(auto, using(crate::proofs::Pieces::none_passed))]
+fn pass_piece(rt: &HostRuntime, s: State, buffer: &mut [u8]) -> (State, Result<(), Stop>)
+    ensures { PiecePassed s (length buffer.old) buffer.new result.0 (stop_of result.1) }
 {
     let most = room(s, buffer.len());
-    let got = read_once(input, &mut buffer[..most]);
-    let n = got.count;
-    let turn = write_piece(s, &mut buffer[..n]);
-    let t = turn.state;
-    if got.stop != stops::GOING_ON {
-        return Turn {
-            state: t,
-            stop: got.stop,
-        };
+    match read_once(rt, &mut buffer[..most]) {
+        Ok(n) => write_piece(rt, s, &mut buffer[..n]),
+        Err(stop) => (s, Err(stop)),
     }
-    turn
 }
 
 // Piece after piece, to the end of the input, the last position, or a read or write that fails.
-fn pass_data(input: Stdin, s: State) -> Turn
-    ensures { DataPassed s result.state result.stop }
+fn pass_data(rt: &HostRuntime, s: State) -> (State, Stop)
+    ensures { DataPassed s result.0 (stop_number result.1) }
 {
-    let mut buffer = io::large_buffer();
+    let mut buffer = [0; BUFFER_BYTES];
     let mut state = s;
-    let mut stop = stops::GOING_ON;
-    while stop == stops::GOING_ON {
-        let turn = pass_piece(input, state, &mut buffer);
-        state = turn.state;
-        stop = turn.stop;
+    loop {
+        let (next, passed) = pass_piece(rt, state, &mut buffer);
+        state = next;
+        if let Err(stop) = passed {
+            return (state, stop);
+        }
     }
-    Turn { state, stop }
 }
 
 // Why the program stops where the data end: at the last position there may be more input, which one more byte shows.
-fn last_stop(input: Stdin, position: u64, stop: u64) -> u64
+fn last_stop(rt: &HostRuntime, position: u64, stop: Stop) -> Stop
     ensures { position < limit → result ≡ stop }
 {
-    if position < LIMIT || stop != stops::INPUT_ENDED {
+    if position < LIMIT || stop != Stop::InputEnded {
         return stop;
     }
-    let mut one = [0u8; 1];
-    let got = read_once(input, &mut one);
-    if got.stop == stops::GOING_ON {
-        return stops::INPUT_LEFT_OVER;
+    match read_once(rt, &mut [0]) {
+        Ok(_) => Stop::InputLeftOver,
+        Err(stop) => stop,
     }
-    got.stop
 }
 
-// Says on standard error why the program stopped, where that is no end of the input.
-fn report(stop: u64) {
-    if stop == stops::READING_FAILED {
-        io::write_all(
-            STDERR,
-            b"cipher: reading failed, the output may not be whole\n",
-        );
-    }
-    if stop == stops::WRITING_FAILED {
-        io::write_all(STDERR, b"cipher: writing failed, the output is not whole\n");
-    }
-    if stop == stops::INPUT_LEFT_OVER {
-        io::write_all(
-            STDERR,
-            b"cipher: stopped after 16777216 bytes of data, there was more\n",
-        );
+// Says on standard error why the program stopped, where that is no end of the input; where that fails, there is nowhere to say so.
+fn report(rt: &HostRuntime, stop: Stop) {
+    if let Some(message) = stop.message() {
+        let _ = rt.eprintln(message);
     }
 }
 
 // The whole program.
-pub fn run(rt: &HostRuntime) -> Answer
-    ensures { Ran result }
+pub fn run(rt: &HostRuntime) -> Result<State, Refused>
+    ensures { Ran (answered result) }
 {
-    let input = rt.stdin();
-    let header = read_header(input);
-    report(header.stop);
-    let bytes = header.bytes;
-    let n = header.count;
-    let answer = start(&bytes[..n]);
-    if answer.number != numbers::ACCEPTED {
-        report(write_refusal(answer.number));
-        return answer;
+    let mut header = [0; LONGEST_HEADER];
+    let (count, read) = read_header(rt, &mut header);
+    if let Err(stop) = read {
+        report(rt, stop);
     }
-    let s = answer.state;
-    let end = pass_data(input, s);
-    let t = end.state;
-    report(last_stop(input, t.position, end.stop));
-    Answer {
-        number: numbers::ACCEPTED,
-        state: t,
-    }
+    let state = match start(&header[..count]) {
+        Ok(state) => state,
+        Err(refused) => {
+            if let Err(stop) = write_refusal(rt, refused.refusal) {
+                report(rt, stop);
+            }
+            return Err(refused);
+        }
+    };
+    let (state, stop) = pass_data(rt, state);
+    report(rt, last_stop(rt, state.position, stop));
+    Ok(state)
 }

@@ -1,16 +1,35 @@
-// Why reading or writing stopped; the first and the fourth are in specs/Passing.antt too.
+// Why reading or writing stopped; specs/Stops.antt has a number for each.
+ghost use Rattle.std.specs.Prelude.{◌≡◌, option_map};
+ghost use Rattle.cipher_io.specs.Stops.{message_of};
 
-// It did not.
-pub const GOING_ON: u64 = 0;
+// Why a call read or wrote no more.
+#[derive(Clone, Copy, PartialEq, Eq)]
+pub enum Stop {
+    // The input came to its end.
+    InputEnded,
 
-// The input came to its end.
-pub const INPUT_ENDED: u64 = 1;
+    // A read failed.
+    ReadingFailed,
 
-// A read failed.
-pub const READING_FAILED: u64 = 2;
+    // A write failed, or the window call refused a piece.
+    WritingFailed,
 
-// A write failed, or the window call refused a piece.
-pub const WRITING_FAILED: u64 = 3;
+    // The last position was reached, and there was more input.
+    InputLeftOver,
+}
 
-// The last position was reached, and there was more input.
-pub const INPUT_LEFT_OVER: u64 = 4;
+impl Stop {
+    // What the program says of it on standard error: nothing where the input ended.
+    pub fn message(self) -> Option<&'static str>
+        ensures { option_map (λ text. text.now) result ≡ message_of self }
+    {
+        match self {
+            Stop::InputEnded => None,
+            Stop::ReadingFailed => Some("cipher: reading failed, the output may not be whole"),
+            Stop::WritingFailed => Some("cipher: writing failed, the output is not whole"),
+            Stop::InputLeftOver => {
+                Some("cipher: stopped after 16777216 bytes of data, there was more")
+            }
+        }
+    }
+}

@@ -5,8 +5,8 @@ use mathlib.Core.Bool.{true, false}
 use mathlib.Core.List.{List, ◌++◌}
 use lib.ListN.{length, drop}
 use borrow.Author.Tests.{lt-ltb, le-ltb}
-use Rattle.csv_contents.specs.declared.Measured.{Measured}
-use Rattle.csv_contents.specs.declared.Written.TheVariants.{Bytes, Refused}
+use Rattle.csv_contents.specs.Measures.{Measured}
+use Rattle.csv_contents.specs.Answers.{Bytes, Refused}
 use Rattle.csv_contents.specs.Contents.{content_of, is_field, answer_of, target_of}
 use Rattle.csv_contents.specs.Measures.{Measures}
 

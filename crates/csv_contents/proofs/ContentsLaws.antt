@@ -18,7 +18,7 @@ use Rattle.csv_fields.specs.Ends.{is_text_data, is_inside, plain_end, quoted_end
 use Rattle.csv_grammar.proofs.Automaton.{Kind, Plain, Comma, Quote, Cr, Lf, Control, kind_of}
 use Rattle.csv_grammar.proofs.Letters.{Told, told}
 use Rattle.csv_fields.proofs.Bytes.{textdata, textdata_bounds}
-use Rattle.csv_contents.specs.declared.Written.TheVariants.{Bytes, Refused}
+use Rattle.csv_contents.specs.Answers.{Bytes, Refused}
 use Rattle.csv_contents.specs.Contents.{Unescaped, Content, unquoted, content_of, is_field, content_tests, answer_of, target_of, number_of, values_of, content_lines}
 use Rattle.csv_contents.specs.ContentsLaws.{doubled, Writable, ContentsLaws}
 use Rattle.csv_contents.proofs.Measuring.{field_is, is_field_lem}

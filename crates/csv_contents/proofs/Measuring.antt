@@ -1,21 +1,22 @@
 -- Which parts are fields, and the loop of `measure_quoted`, turn by turn.
 use Prim.Native.Nat.{ℕ, suc, ◌+◌, ◌-◌, ◌<◌, ◌≤◌}
-use mathlib.Core.Path.{◌≡◌, refl, sym, ap, ◌∙◌, subst⁻¹}
+use mathlib.Core.Path.{◌≡◌, refl, sym, ap, ◌∙◌, subst, subst⁻¹}
 use mathlib.Core.Bool.{Bool, true, false, true≢false, cond}
 use mathlib.Core.List.{List, [], ◌∷◌, ◌++◌, append-nil}
 use native.Mathlib.Nat.{zero-add}
 use native.Mathlib.Omega.{arith}
 use lib.Dec.{eqb}
 use lib.ListN.{length, drop, get_or, length-append}
-use borrow.Author.Tests.{eq-eqb, ne_eqb, eqb-true}
+use borrow.Author.Tests.{eq-eqb, ne_eqb, eqb-true, ltb-true}
 use Rattle.csv_grammar.specs.Grammar as G
-use Rattle.csv_fields.specs.declared.FieldEnd.{FieldEnd}
-use Rattle.csv_fields.specs.Ends.{quoted_end, field_end}
+use Rattle.std.specs.Prelude.{Some, None}
+use Rattle.csv_fields.specs.Ends.{FieldEnd, PlainEnd, plain_end, plain_end_in, quoted_end, field_end}
+use Rattle.csv_fields.specs.Answers.{plain_ended}
 use Rattle.csv_fields.specs.FieldsLaws.{nothing}
 use Rattle.csv_fields.proofs.Bytes.{textdata, textdata_bounds, not_so}
 use Rattle.csv_fields.proofs.Runs.{quoted_over, inside_here, quote_closes, quote_again, closed_here, quote_opens, no_quote_field}
 use Rattle.csv_fields.proofs.FieldsLaws.{field_ends, whole_field}
-use Rattle.csv_contents.specs.declared.Measured.{Measured}
+use Rattle.csv_contents.specs.Measures.{Measured}
 use Rattle.csv_contents.specs.Contents.{unquoted, content_of, whole_at, is_field}
 use Rattle.csv_contents.specs.Measures.{InsideRun, Measures}
 use Rattle.csv_contents.proofs.Runs.{unquoted_last, unquoted_pair}
@@ -115,6 +116,19 @@ measures_plain t e n q =
       field = ap (λ (x : FieldEnd). eqb x.at (length t)) (q ∙ no_quote_field t 0 n) ∙ sym (ap (whole_at (length t)) (no_quote_field t 0 n));
       counts = λ y. ap length (sym (plain_content t n));
     }
+
+-- by the end of its TEXTDATA
+module _ (t : List ℕ) (n : 0 < length t → get_or t 0 0 ≡ 34 → ⊥) where
+  pub plain_field : plain_ended t 0 None ≡ plain_end_in t 0 → Measures t (record { whole = true; len = length t })
+  plain_field p =
+      let e : plain_end 0 t ≡ length t = omega (arith, ap (λ (x : PlainEnd). x.at) p) in
+      subst (λ (b : Bool). Measures t (record { whole = b; len = length t })) (eq-eqb (plain_end 0 t) (length t) e) (measures_plain t (record { at = plain_end 0 t; whole = true }) n (sym (no_quote_field t 0 n)))
+
+  pub plain_none : (k : ℕ) → plain_ended t 0 (Some k) ≡ plain_end_in t 0 → Measures t (record { whole = false; len = 0 })
+  plain_none k p =
+      let l = ltb-true (plain_end 0 t) (length t) (sym (ap (λ (x : PlainEnd). x.within) p)) in
+      let m = measures_plain t (record { at = plain_end 0 t; whole = true }) n (sym (no_quote_field t 0 n)) in
+      record { field = sym (ne_eqb (plain_end 0 t) (length t) (λ q. omega arith)) ∙ m.field; counts = λ w. absurd (true≢false (sym w)) }
 
 -- a copy of such a part to the front of a target
 pub written_plain : (t target now : List ℕ) → (0 < length t → get_or t 0 0 ≡ 34 → ⊥) → now ≡ t ++ drop (length t) target → now ≡ content_of t ++ drop (length (content_of t)) target

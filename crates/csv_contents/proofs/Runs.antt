@@ -2,19 +2,20 @@
 use Prim.Native.Nat.{ℕ, suc, ◌+◌, ◌-◌, ◌<◌, ◌≤◌}
 use mathlib.Core.Path.{◌≡◌, refl, sym, ap, ◌∙◌}
 use mathlib.Core.Logic.{inl}
-use mathlib.Core.Bool.{Bool, true, false, true≢false, cond}
+use mathlib.Core.Bool.{Bool, true, false, true≢false, cond, not}
 use mathlib.Core.List.{List, [], ◌∷◌, ◌++◌, append_assoc}
 use native.Mathlib.Omega.{arith}
 use native.Mathlib.Numerals.{add-one}
-use lib.Dec.{ltb}
+use lib.Dec.{eqb, ltb}
 use lib.ListN.{length, take, drop, get_or, length-drop}
 use lib.Seq.{drop-cons, take-suc, get_or-drop}
-use borrow.Author.Tests.{eq-eqb, ne_eqb, ltb-true, ltb-false}
+use borrow.Author.Tests.{eq-eqb, ne_eqb, eqb-true, ltb-true, ltb-false}
 use Rattle.csv_fields.specs.Ends.{is_inside, quoted_end}
 use Rattle.csv_fields.proofs.Bytes.{inside_no}
-use Rattle.csv_fields.proofs.Runs.{inside_on, not_last}
+use Rattle.csv_fields.specs.Answers.{Run}
+use Rattle.csv_fields.proofs.Runs.{inside_on, not_last, carried}
 use Rattle.csv_contents.specs.Contents.{unquoted}
-use Rattle.csv_contents.specs.Measures.{InsideRun, run_stop}
+use Rattle.csv_contents.specs.Measures.{InsideRun, QuoteAt, run_stop}
 
 short : (s : List ℕ) → length s ≤ 1 → unquoted s ≡ []
 unfolding unquoted
@@ -90,6 +91,23 @@ runs_more t i q b r n =
       omega arith,
       l,
     )
+
+-- ---- the runs that the code finds, in a part whose last byte is a quote
+
+pub inside_found : (t : List ℕ) (i e : ℕ) → i < length t → get_or t (length t - 1) 0 ≡ 34 → Run (λ b x. x ≡ is_inside b) t i e → e < length t → InsideRun t i e
+inside_found t i e h l r w =
+    inside_stops t i e
+    (carried (InsideTo t i) i e r.passed.0 (refl, omega arith, omega arith, h) (λ k a b x. inside_more t i k l x (sym (r.passed.1 k a b).1)))
+    (sym (r.stops w))
+
+pub quote_found : (t : List ℕ) (i q : ℕ) → i < length t → get_or t (length t - 1) 0 ≡ 34 → Run (λ b x. x ≡ not (eqb b 34)) t i q → q < length t → QuoteAt t i q
+quote_found t i q h l r w =
+    let v = carried (RunsTo t i) i q r.passed.0 (runs_none t i h) (λ k a b x. runs_more t i k l x (λ e. true≢false ((r.passed.1 k a b).1 ∙ rw (eq-eqb _ _ e)))) in
+    record { runs = v.0; after = v.1; within = v.2; quote = eqb-true _ 34 (by (eqb (get_or t q 0) 34) (r.stops w)) }
+  where
+    by : (x : Bool) → false ≡ not x → x ≡ true
+    by true e = refl
+    by false e = absurd (true≢false (sym e))
 
 -- the bytes up to a quote, with it but for the closing one, and what follows
 pub quote_run : (t : List ℕ) (i q k : ℕ) → i ≤ q → q < length t → get_or t q 0 ≡ 34 → unquoted (drop i t) ≡ take (q - i) (drop i t) ++ unquoted (drop q t) → k ≡ run_stop q (length t) →

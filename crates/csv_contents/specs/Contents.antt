@@ -5,10 +5,8 @@ use Rattle.refusals.specs.Numbers.{accepted, refused_target_shorter, refused_not
 use Rattle.refusals.specs.Tests.{Test, target_test, returned, written}
 use Rattle.refusals.specs.Lines as lines
 use Rattle.csv_grammar.specs.Grammar.{TextData, NonEscaped, Field}
-use Rattle.csv_fields.specs.declared.FieldEnd.{FieldEnd}
-use Rattle.csv_fields.specs.Ends.{field_end}
-use Rattle.csv_contents.specs.declared.Written.{Written}
-use Rattle.csv_contents.specs.declared.Written.TheVariants.{Bytes, Refused}
+use Rattle.csv_fields.specs.Ends.{FieldEnd, field_end}
+use Rattle.csv_contents.specs.Answers.{Written, Bytes, Refused}
 
 -- ---- as a relation, production for production
 

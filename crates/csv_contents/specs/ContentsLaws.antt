@@ -2,7 +2,7 @@
 use Rattle.std.specs.Prelude.{ℕ, ◌≤◌, ◌≡◌, ◌⊎◌, cond, List, [], ◌∷◌, ◌++◌, eqb, length, drop}
 use Rattle.refusals.specs.Lines.{RefusesInOrder}
 use Rattle.csv_grammar.specs.Grammar.{NonEscaped, Field}
-use Rattle.csv_contents.specs.declared.Written.TheVariants.{Bytes, Refused}
+use Rattle.csv_contents.specs.Answers.{Bytes, Refused}
 use Rattle.csv_contents.specs.Contents.{Content, answer_of, target_of, number_of, values_of, content_lines}
 
 -- a content with its quotes doubled

@@ -1,119 +1,81 @@
 // The content of a field of RFC 4180 text: its quotes removed, and doubled quotes made single.
 #![tactic(auto)]
 
-ghost use Rattle.std.specs.Prelude.{◌≡◌, false, ◌++◌, ◌+◌, ◌-◌, ◌<◌, ◌≤◌, length, take, drop, get_or};
+ghost use Rattle.std.specs.Prelude.{Bool, false, slice_index, ◌≡◌, ◌==◌, not, ◌↔◌, true, ◌++◌, ◌+◌, ◌-◌, ◌<◌, ◌≤◌, length, take, drop, get_or};
+ghost use Rattle.csv_fields.specs.Answers.{Run};
+ghost use Rattle.csv_contents.specs.Answers.{answered};
 ghost use Rattle.csv_contents.specs.Contents.{unquoted, answer_of, target_of};
-ghost use Rattle.csv_contents.specs.Measures.{InsideRun, QuoteAt, run_stop, Measures};
+ghost use Rattle.csv_contents.specs.Measures.{run_stop, Quoted, measured, Measures};
 
-use refusals::numbers;
+use csv_grammar::Fault;
+use refusals::Refusal;
 
-// The count of bytes written, or the number of the refusal and its place.
-#[derive(Clone, Copy)]
-pub enum Written {
-    Bytes(usize),
-    Refused(u64, usize),
+// Whether a part begins with a quote.
+fn is_quoted(part: &[u8]) -> bool
+    ensures { (result ≡ true) ↔ Quoted part.now }
+{
+    !part.is_empty() && part[0] == b'"'
 }
 
-// Whether a part is a field, and the length of its content if it is one.
-#[derive(Clone, Copy)]
-pub struct Measured {
-    pub whole: bool,
-    pub len: usize,
-}
-
-// The end of a run of bytes inside quotes, in a part whose last byte is a quote.
-fn inside_run(part: &[u8], from: usize) -> usize
-    requires { (from < length part.now) × (get_or part.now (length part.now - 1) 0 ≡ 34) }
-    ensures { InsideRun part.now from result }
+// The end of the bytes from a place on that pass a test, in a part whose last byte does not pass, so that no byte asks for the part's end.
+// Two bytes a turn: with one a turn the content of a long field in quotes took 1.15 times the instructions, more than the bar for it.
+fn run_end<F: Fn(u8) -> bool>(part: &[u8], from: usize, passes: F) -> usize
+    requires callable { F.IsAlwaysCallable passes }
+    requires within { from < length part.now }
+    requires last { (r : Bool) → F.post passes (slice_index part.now (length part.now - 1)) r → r ≡ false }
+    ensures run { Run (F.post passes) part.now from result }
+    ensures within { result < length part.now }
 {
     let mut i = from;
-    loop {
-        if !csv_fields::is_inside(part[i]) {
-            return i;
+    'pairs: while passes(part[i]) {
+        if !passes(part[i + 1]) {
+            return i + 1;
         }
-        let j = i + 1;
-        if !csv_fields::is_inside(part[j]) {
-            return j;
-        }
-        i = j + 1;
+        i += 2;
     }
+    i
 }
 
-fn no_field() -> Measured
-    ensures { result ≡ record { whole = false; len = 0 } }
-{
-    Measured {
-        whole: false,
-        len: 0,
-    }
-}
-
-// Whether a part that begins with a quote is a field, and the length of its content.
-fn measure_quoted(part: &[u8]) -> Measured
-    requires { (0 < length part.now) × (get_or part.now 0 0 ≡ 34) }
-    ensures { Measures part.now result }
+// The length of the content of a part that begins with a quote; none where the part is no field. The place goes on by runs, and not by one.
+fn measure_quoted(part: &[u8]) -> Option<usize>
+    requires { Quoted part.now }
+    ensures { Measures part.now (measured result) }
 {
     let n = part.len();
-    if part[n - 1] != 34 {
-        return no_field();
+    if part[n - 1] != b'"' {
+        return None;
     }
     let mut i: usize = 1;
     let mut k: usize = 0;
-    while i < n {
-        let e = inside_run(part, i);
+    'quotes: while i < n {
+        let e = run_end(part, i, csv_fields::is_inside);
         k += e - i;
-        if part[e] != 34 {
-            return no_field();
+        if part[e] != b'"' {
+            return None;
         }
         let j = e + 1;
         if n <= j {
-            return Measured {
-                whole: true,
-                len: k,
-            };
+            return Some(k);
         }
-        if part[j] != 34 {
-            return no_field();
+        if part[j] != b'"' {
+            return None;
         }
         k += 1;
         i = j + 1;
     }
-    no_field()
+    None
 }
 
-// Whether a part is a field, and the length of its content.
-fn measure(part: &[u8]) -> Measured
-    ensures { Measures part.now result }
+// The length of a part's content; none where the part is no field.
+fn measure(part: &[u8]) -> Option<usize>
+    ensures { Measures part.now (measured result) }
 {
-    let n = part.len();
-    if 0 < n {
-        if part[0] == 34 {
-            return measure_quoted(part);
-        }
+    if is_quoted(part) {
+        return measure_quoted(part);
     }
-    let f = csv_fields::field_end(part, 0);
-    let e = f.at;
-    Measured {
-        whole: e == n,
-        len: n,
-    }
-}
-
-// The place of the next quote, in a part whose last byte is one.
-fn quote_from(part: &[u8], from: usize) -> usize
-    requires { (from < length part.now) × (get_or part.now (length part.now - 1) 0 ≡ 34) }
-    ensures { QuoteAt part.now from result }
-{
-    let mut i = from;
-    loop {
-        if part[i] == 34 {
-            return i;
-        }
-        let j = i + 1;
-        if part[j] == 34 {
-            return j;
-        }
-        i = j + 1;
+    match csv_fields::plain_end(part, 0) {
+        None => Some(part.len()),
+        Some(_) => None,
     }
 }
 
@@ -130,22 +92,24 @@ fn run_stop(q: usize, n: usize) -> usize
     requires { q < n }
     ensures { result ≡ run_stop q n }
 {
-    let next = q + 1;
-    if n <= next {
-        return q;
-    }
-    next
+    if q + 1 < n { q + 1 } else { q }
 }
 
-// The content of a field in quotes to the front of a target, run by run.
+fn is_no_quote(b: u8) -> bool
+    ensures { result ≡ not (b == 34) }
+{
+    b != b'"'
+}
+
+// The content of a field in quotes to the front of a target. Both places go on by runs, and not by one.
 fn write_quoted(part: &[u8], target: &mut [u8])
     requires { (get_or part.now (length part.now - 1) 0 ≡ 34) × (length (unquoted (drop 1 part.now)) ≤ length target.old) }
     ensures { target.new ≡ unquoted (drop 1 part.now) ++ drop (length (unquoted (drop 1 part.now))) target.old }
 {
     let mut i: usize = 1;
     let mut o: usize = 0;
-    while i < part.len() {
-        let q = quote_from(part, i);
+    'quotes: while i < part.len() {
+        let q = run_end(part, i, is_no_quote);
         let k = run_stop(q, part.len());
         write_run(part, i, k, target, o);
         o += k - i;
@@ -154,24 +118,26 @@ fn write_quoted(part: &[u8], target: &mut [u8])
 }
 
 // The content of a part to the front of a target: the count of bytes written, or a refusal, which leaves the target as it was.
-pub fn content(part: &[u8], target: &mut [u8]) -> Written
-    ensures value { result ≡ answer_of part.now (length target.old) }
+pub fn content(part: &[u8], target: &mut [u8]) -> Result<usize, Fault>
+    ensures value { answered result ≡ answer_of part.now (length target.old) }
     ensures target_after { target.new ≡ target_of part.now target.old }
 {
-    let m = measure(part);
-    if !m.whole {
-        return Written::Refused(numbers::REFUSED_NOT_CSV, 0);
-    }
-    let n = m.len;
+    let Some(n) = measure(part) else {
+        return Err(Fault {
+            refusal: Refusal::NotCsv,
+            at: 0,
+        });
+    };
     if target.len() < n {
-        return Written::Refused(numbers::REFUSED_TARGET_SHORTER, 0);
+        return Err(Fault {
+            refusal: Refusal::TargetShorter,
+            at: 0,
+        });
     }
-    if 0 < part.len() {
-        if part[0] == 34 {
-            write_quoted(part, target);
-            return Written::Bytes(n);
-        }
+    if is_quoted(part) {
+        write_quoted(part, target);
+    } else {
+        copying::copy(part, target);
     }
-    copying::copy(part, target);
-    Written::Bytes(n)
+    Ok(n)
 }

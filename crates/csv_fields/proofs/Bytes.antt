@@ -5,7 +5,7 @@ use mathlib.Core.Logic.{◌⊎◌, inl, inr}
 use mathlib.Core.Bool.{Bool, true, false, ◌&&◌, ◌||◌}
 use native.Mathlib.Omega.{arith}
 use lib.Dec.{eqb, leb}
-use borrow.Author.Tests.{eq-eqb, eqb-true, eqb-false, le-leb, leb-true, leb-false}
+use borrow.Author.Tests.{eq-eqb, eqb-true, le-leb, leb-true}
 use Rattle.csv_grammar.specs.Grammar.{TextData}
 use Rattle.csv_fields.specs.Ends.{is_text_data, is_inside}
 
@@ -19,16 +19,6 @@ textdata b (inl h) = rw (le-leb 32 b h.0, le-leb b 33 h.1)
 textdata b (inr (inl h)) = or_right (leb 32 b && leb b 33) _ (rw (le-leb 35 b h.0, le-leb b 43 h.1))
 textdata b (inr (inr (inl h))) = or_right (leb 32 b && leb b 33) _ (or_right (leb 35 b && leb b 43) _ (rw (le-leb 45 b h.0, le-leb b 126 h.1)))
 textdata b (inr (inr (inr h))) = or_right (leb 32 b && leb b 33) _ (or_right (leb 35 b && leb b 43) _ (or_right (leb 45 b && leb b 126) _ (le-leb 128 b h)))
-
--- 32 and above, but for the quote, the comma and 127
-pub textdata_above : (b : ℕ) → 32 ≤ b → (b ≡ 34 → ⊥) → (b ≡ 44 → ⊥) → (b ≡ 127 → ⊥) → is_text_data b ≡ true
-textdata_above b h q k d = by (leb b 33) (leb b 43) (leb b 126) refl refl refl
-  where
-    by : (x y z : Bool) → leb b 33 ≡ x → leb b 43 ≡ y → leb b 126 ≡ z → is_text_data b ≡ true
-    by true y z e f g = textdata b (inl (h, leb-true b 33 e))
-    by false true z e f g = textdata b (inr (inl (omega (arith, leb-false b 33 e), leb-true b 43 f)))
-    by false false true e f g = textdata b (inr (inr (inl (omega (arith, leb-false b 43 f), leb-true b 126 g))))
-    by false false false e f g = textdata b (inr (inr (inr (omega (arith, leb-false b 126 g)))))
 
 both : (x y : Bool) {P Q : Type 0} → (x ≡ true → P) → (y ≡ true → Q) → x && y ≡ true → P × Q
 both true y f g e = (f refl, g e)
@@ -80,13 +70,6 @@ unfolding is_inside
 inside_other b (inl e) = or_right (is_text_data b) _ (rw (eq-eqb b 44 e))
 inside_other b (inr (inl e)) = or_right (is_text_data b) _ (or_right (eqb b 44) _ (rw (eq-eqb b 13 e)))
 inside_other b (inr (inr e)) = or_right (is_text_data b) _ (or_right (eqb b 44) _ (or_right (eqb b 13) _ (eq-eqb b 10 e)))
-
-pub inside_above : (b : ℕ) → 32 ≤ b → (b ≡ 34 → ⊥) → (b ≡ 127 → ⊥) → is_inside b ≡ true
-inside_above b h q d = by (eqb b 44) refl
-  where
-    by : (x : Bool) → eqb b 44 ≡ x → is_inside b ≡ true
-    by true e = inside_other b (inl (eqb-true b 44 e))
-    by false e = inside_textdata b (textdata_above b h q (eqb-false b 44 e) d)
 
 pub inside_only : (b : ℕ) → is_inside b ≡ true → TextData b ⊎ ((b ≡ 44) ⊎ ((b ≡ 13) ⊎ (b ≡ 10)))
 unfolding is_inside

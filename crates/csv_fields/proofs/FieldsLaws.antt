@@ -11,8 +11,7 @@ use borrow.Author.Tests.{ne_eqb, eqb-true}
 use Rattle.csv_grammar.specs.Grammar.{TextData}
 use Rattle.csv_grammar.specs.Grammar as G
 use Rattle.csv_grammar.proofs.Letters.{split}
-use Rattle.csv_fields.specs.declared.FieldEnd.{FieldEnd}
-use Rattle.csv_fields.specs.Ends.{is_text_data, is_inside, plain_end, quoted_end, field_end}
+use Rattle.csv_fields.specs.Ends.{FieldEnd, is_text_data, is_inside, plain_end, quoted_end, field_end}
 use Rattle.csv_fields.specs.FieldsLaws.{Follows, nothing, comma, cr, FieldsLaws}
 use Rattle.csv_fields.proofs.Bytes.{textdata, textdata_only, textdata_bounds, textdata_no, inside_textdata, inside_other, inside_only}
 

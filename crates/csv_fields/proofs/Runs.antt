@@ -1,6 +1,6 @@
 -- Runs of a field's bytes, byte by byte.
-use Prim.Native.Nat.{ℕ, ◌+◌, ◌-◌, ◌<◌, ◌≤◌}
-use mathlib.Core.Path.{◌≡◌, refl, sym, ap, ◌∙◌}
+use Prim.Native.Nat.{ℕ, zero, suc, max, ◌+◌, ◌-◌, ◌<◌, ◌≤◌}
+use mathlib.Core.Path.{◌≡◌, refl, sym, ap, ◌∙◌, subst}
 use mathlib.Core.Logic.{inl}
 use mathlib.Core.Bool.{Bool, true, false, true≢false}
 use mathlib.Core.List.{List}
@@ -9,9 +9,12 @@ use native.Mathlib.Numerals.{add-one}
 use lib.Dec.{eqb, ltb}
 use lib.ListN.{length, drop, get_or, drop_of_length-le}
 use lib.Seq.{drop-cons}
-use borrow.Author.Tests.{eq-eqb, ne_eqb, ltb-true, ltb-false}
-use Rattle.csv_fields.specs.Ends.{is_text_data, is_inside, plain_end, quoted_end, field_end}
-use Rattle.csv_fields.proofs.Bytes.{textdata_no, inside_no}
+use borrow.Author.Tests.{eq-eqb, ne_eqb, ltb-true, ltb-false, lt-ltb, le-ltb}
+use Rattle.std.specs.Prelude.{Option, Some, None, MatchOption}
+use Rattle.std.specs.Option.{unwrap_or}
+use Rattle.csv_fields.specs.Ends.{PlainEnd, is_text_data, is_inside, plain_end, plain_end_in, quoted_end, field_end}
+use Rattle.csv_fields.specs.Answers.{plain_ended, Run}
+use Rattle.csv_fields.proofs.Bytes.{inside_no}
 
 module _ (text : List ℕ) (i : ℕ) (h : length text ≤ i) where
   pub plain_over : plain_end i (drop i text) ≡ i
@@ -79,20 +82,47 @@ module _ (text : List ℕ) (i : ℕ) (h : i < length text) where
           let k : i ≡ length text - 1 = omega arith in
           absurd (n (ap (λ (x : ℕ). get_or text x 0) k))
 
-  -- so does TEXTDATA where the last one is a control byte
-  pub before_last : get_or text (length text - 1) 0 < 32 → is_text_data (get_or text i 0) ≡ true → i + 1 < length text
-  before_last l e = not_last (λ q. true≢false (sym e ∙ textdata_no (get_or text i 0) (inl (omega (arith, l, q)))))
+-- ---- runs of bytes that pass a test
 
--- from a place on, the TEXTDATA goes on to a later place k, which is within the text
-abbrev pub RunsTo : (text : List ℕ) (from k : ℕ) → Type 0
-RunsTo text from k = (plain_end from (drop from text) ≡ plain_end k (drop k text)) × (k < length text)
+-- what each step carries on holds at the end
+pub carried : (P : ℕ → Type 0) (i e : ℕ) → i ≤ e → P i → ((k : ℕ) → i ≤ k → k < e → P k → P (k + 1)) → P e
+carried P i e l z s = let n : i + (e - i) ≡ e = omega arith in subst P n (go (e - i) (λ k a b. s k a (omega arith)))
+  where
+    go : (n : ℕ) → ((k : ℕ) → i ≤ k → k < i + n → P k → P (k + 1)) → P (i + n)
+    go zero s = let n : i ≡ i + 0 = omega arith in subst P n z
+    go (suc n) s = let m : i + n + 1 ≡ i + suc n = omega arith in subst P m (s (i + n) (omega arith) (omega arith) (go n (λ k a b. s k a (omega arith))))
 
--- one byte of TEXTDATA more, where the text's last byte is a control byte
-pub runs_more : (text : List ℕ) (from k : ℕ) → get_or text (length text - 1) 0 < 32 → RunsTo text from k → is_text_data (get_or text k 0) ≡ true → RunsTo text from (k + 1)
-runs_more text from k l r e = (r.0 ∙ plain_on text k r.1 e, before_last text k r.1 l e)
+along : {A : Type 0} (f : ℕ → A) (i e : ℕ) → i ≤ e → ((k : ℕ) → i ≤ k → k < e → f k ≡ f (k + 1)) → f i ≡ f e
+along f i e l h = carried (λ k. f i ≡ f k) i e l refl (λ k a b q. q ∙ h k a b)
 
-pub runs_end : (text : List ℕ) (from k : ℕ) → RunsTo text from k → is_text_data (get_or text k 0) ≡ false → (k ≡ plain_end from (drop from text)) × (k < length text)
-runs_end text from k r e = (sym (r.0 ∙ plain_here text k r.1 e), r.1)
+module _ (post : ℕ → Bool → Type 0) (text : List ℕ) where
+  module _ (i e : ℕ) (r : Run post text i e) where
+    pub plain_run : ((b : ℕ) (x : Bool) → post b x → x ≡ is_text_data b) → e ≡ plain_end i (drop i text)
+    plain_run h =
+        sym (along (λ k. plain_end k (drop k text)) i e r.passed.0 (λ k a b. let p = r.passed.1 k a b in plain_on text k p.0 (sym (h _ _ p.1))) ∙ by (ltb e (length text)) refl)
+      where
+        by : (x : Bool) → ltb e (length text) ≡ x → plain_end e (drop e text) ≡ e
+        by true x = let l = ltb-true e (length text) x in plain_here text e l (sym (h _ _ (r.stops l)))
+        by false x = plain_over text e (ltb-false e (length text) x)
+
+    pub inside_run : ((b : ℕ) (x : Bool) → post b x → x ≡ is_inside b) → quoted_end false i (drop i text) ≡ quoted_end false e (drop e text)
+    inside_run h = along (λ k. quoted_end false k (drop k text)) i e r.passed.0 (λ k a b. let p = r.passed.1 k a b in inside_on text k p.0 (sym (h _ _ p.1)))
+
+    -- a run that goes on to the text's end, or starts behind it
+    run_over : length text ≤ e → max (length text) i ≡ e
+    run_over l = by (ltb i e) refl
+      where
+        by : (x : Bool) → ltb i e ≡ x → max (length text) i ≡ e
+        by true x = let a = ltb-true i e x in let b = (r.passed.1 (e - 1) (omega arith) (omega arith)).0 in omega arith
+        by false x = let a = ltb-false i e x in let b = r.passed.0 in omega arith
+
+    pub plain_ends : ((b : ℕ) (x : Bool) → post b x → x ≡ is_text_data b) → (o : Option ℕ) → MatchOption o (length text ≤ e) (λ k. (k ≡ e) × (k < length text)) → plain_ended text i o ≡ plain_end_in text i
+    plain_ends h None l =
+        let p : max (length text) i ≡ plain_end i (drop i text) = run_over l ∙ plain_run h in
+        λ j. record { at = p j; within = sym (ap (λ (n : ℕ). ltb n (length text)) (sym (plain_run h)) ∙ le-ltb _ _ l) j }
+    plain_ends h (Some k) l =
+        let p : k ≡ plain_end i (drop i text) = l.0 ∙ plain_run h in
+        λ j. record { at = p j; within = sym (ap (λ (n : ℕ). ltb n (length text)) (sym p) ∙ lt-ltb _ _ l.1) j }
 
 -- a field at any place that does not begin with a quote
 pub no_quote_field : (text : List ℕ) (i : ℕ) → (i < length text → get_or text i 0 ≡ 34 → ⊥) → field_end i (drop i text) ≡ record { at = plain_end i (drop i text); whole = true }
@@ -101,3 +131,8 @@ no_quote_field text i n = by (ltb i (length text)) refl
     by : (t : Bool) → ltb i (length text) ≡ t → field_end i (drop i text) ≡ record { at = plain_end i (drop i text); whole = true }
     by true q = let l = ltb-true i (length text) q in plain_field text i l (n l)
     by false q = let l = ltb-false i (length text) q in field_over text i l ∙ ap (λ (e : ℕ). record { at = e; whole = true }) (sym (plain_over text i l))
+
+-- the place of a run's end, with another byte there or none
+pub plain_place : (text : List ℕ) (i m e : ℕ) (o : Option ℕ) → plain_ended text i o ≡ plain_end_in text i → m ≡ max (length text) i → e ≡ unwrap_or o m → e ≡ plain_end i (drop i text)
+plain_place text i m e None h n u = u ∙ (n ∙ ap (λ (p : PlainEnd). p.at) h)
+plain_place text i m e (Some k) h n u = u ∙ ap (λ (p : PlainEnd). p.at) h

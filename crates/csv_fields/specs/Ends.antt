@@ -1,7 +1,15 @@
 -- Where a field ends, as a function of the bytes from its start on: the place up to which they belong to one field.
 use Rattle.std.specs.Prelude.{ℕ, suc, ◌<◌, ◌≤◌, ◌≡◌, Bool, true, false, cond, ◌&&◌, ◌||◌, List, [], ◌∷◌, eqb, ltb, leb, length, drop, get_or}
-use Rattle.csv_fields.specs.declared.FieldEnd.{FieldEnd}
-use Rattle.csv_fields.specs.declared.PlainEnd.{PlainEnd}
+
+-- where the bytes that belong to a field end, and whether they are a field by then
+pub record FieldEnd : Type 0 where
+  pub at : ℕ
+  pub whole : Bool
+
+-- where a run of TEXTDATA ends, and whether another byte stands there
+pub record PlainEnd : Type 0 where
+  pub at : ℕ
+  pub within : Bool
 
 -- whether a byte is TEXTDATA, as the grammar has it
 unfoldable pub is_text_data : ℕ → Bool

@@ -1,3 +1,4 @@
 -- Where a field ends.
 pub mod Ends
+pub mod Answers
 pub mod FieldsLaws

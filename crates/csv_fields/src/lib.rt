@@ -1,24 +1,13 @@
 // Where a field of RFC 4180 text ends: runs of TEXTDATA, fields in quotes, and either.
 #![tactic(auto)]
 
-ghost use Rattle.std.specs.Prelude.{◌≡◌, false, ◌<◌, ◌-◌, length, drop, get_or};
-ghost use Rattle.csv_fields.specs.Ends.{is_text_data, is_inside, plain_end, plain_end_in, quoted_end, field_end, InsideEnd};
+ghost use Rattle.std.specs.Prelude.{◌≡◌, Bool, true, false, ◌<◌, ◌-◌, length, drop, slice_index};
+ghost use Rattle.csv_fields.specs.Ends.{is_text_data, is_inside, plain_end_in, quoted_end, field_end};
+ghost use Rattle.csv_fields.specs.Answers.{ended, plain_ended, Run};
 
-// Where the bytes that belong to a field end, and whether they are a field by then.
-#[derive(Clone, Copy)]
-pub struct FieldEnd {
-    pub at: usize,
-    pub whole: bool,
-}
-
-// Where a run of TEXTDATA ends, and whether another byte stands there.
-#[derive(Clone, Copy)]
-pub struct PlainEnd {
-    pub at: usize,
-    pub within: bool,
-}
-
-// Whether a byte is TEXTDATA. The commonest bytes are tested first.
+// Whether a byte is TEXTDATA. The commonest bytes are tested first: as one `match` over ranges plain orders took 1.4 times the
+// instructions, more than their bar.
+#[tactic(auto, unfolding(crate::specs::Ends::is_text_data))]
 pub fn is_textdata(b: u8) -> bool
     ensures { result ≡ is_text_data b }
 {
@@ -45,7 +34,9 @@ pub fn is_textdata(b: u8) -> bool
     true
 }
 
-// Whether a byte may stand inside quotes, and is no quote. The commonest bytes are tested first.
+// Whether a byte may stand inside quotes, and is no quote. The commonest bytes are tested first: as one `match` over ranges quoted orders took 1.3 times
+// the instructions, more than their bar.
+#[tactic(auto, unfolding(crate::specs::Ends::is_inside, crate::specs::Ends::is_text_data))]
 pub fn is_inside(b: u8) -> bool
     ensures { result ≡ is_inside b }
 {
@@ -75,117 +66,71 @@ pub fn is_inside(b: u8) -> bool
     true
 }
 
-// The end of a run of TEXTDATA in a text whose last byte is none, so that no byte asks for the text's end.
-fn run_end(text: &[u8], from: usize) -> usize
-    requires { (from < length text.now) × (get_or text.now (length text.now - 1) 0 < 32) }
-    ensures { (result ≡ plain_end from (drop from text.now)) × (result < length text.now) }
+// The end of the bytes from a place on that pass a test.
+// A `while`: as a `for` over the places a walk over quoted orders took 1.2 times the instructions, more than its bar.
+fn run_end<F: Fn(u8) -> bool>(text: &[u8], from: usize, passes: F) -> usize
+    requires { F.IsAlwaysCallable passes }
+    ensures { Run (F.post passes) text.now from result }
 {
     let mut i = from;
-    loop {
-        if !is_textdata(text[i]) {
-            return i;
-        }
-        let j = i + 1;
-        if !is_textdata(text[j]) {
-            return j;
-        }
-        i = j + 1;
-    }
-}
-
-// The end of a run of TEXTDATA in any text.
-fn bounded_end(text: &[u8], from: usize) -> usize
-    ensures { result ≡ plain_end from (drop from text.now) }
-{
-    let mut i = from;
-    while i < text.len() {
-        if !is_textdata(text[i]) {
-            return i;
-        }
+    while i < text.len() && passes(text[i]) {
         i += 1;
     }
     i
 }
 
-// The end of a run of TEXTDATA: the faster way where the text's last byte is a control byte, as it is after a line's end.
-pub fn plain_end(text: &[u8], from: usize) -> PlainEnd
-    ensures { result ≡ plain_end_in text.now from }
-{
-    if from < text.len() {
-        if text[text.len() - 1] < 32 {
-            return PlainEnd {
-                at: run_end(text, from),
-                within: true,
-            };
-        }
-    }
-    let e = bounded_end(text, from);
-    PlainEnd {
-        at: e,
-        within: e < text.len(),
-    }
-}
-
-// The end of a run of bytes inside quotes.
-fn inside_end(text: &[u8], from: usize) -> usize
-    ensures { InsideEnd text.now from result }
+// The same in a text whose last byte does not pass, so that no byte asks for the text's end; `csv_contents` has one that goes by two. By `position`, which asks for it, plain orders took 1.2 times
+// the instructions, more than their bar.
+fn stop_from<F: Fn(u8) -> bool>(text: &[u8], from: usize, passes: F) -> usize
+    requires callable { F.IsAlwaysCallable passes }
+    requires within { from < length text.now }
+    requires last { (r : Bool) → F.post passes (slice_index text.now (length text.now - 1)) r → r ≡ false }
+    ensures run { Run (F.post passes) text.now from result }
+    ensures within { result < length text.now }
 {
     let mut i = from;
-    while i < text.len() {
-        if !is_inside(text[i]) {
-            return i;
-        }
+    while passes(text[i]) {
         i += 1;
     }
     i
 }
 
-// Where a field ends, from a place inside its quotes.
-pub fn quoted_end(text: &[u8], from: usize) -> FieldEnd
-    ensures { result ≡ quoted_end false from (drop from text.now) }
+// The end of a run of TEXTDATA: the place of another byte, or none where the run goes on to the text's end. The faster way where the text's last byte is a
+// control byte, as it is after a line's end.
+pub fn plain_end(text: &[u8], from: usize) -> Option<usize>
+    ensures { plain_ended text.now from result ≡ plain_end_in text.now from }
+{
+    if from < text.len() && text[text.len() - 1] < 32 {
+        return Some(stop_from(text, from, is_textdata));
+    }
+    let e = run_end(text, from, is_textdata);
+    if e < text.len() { Some(e) } else { None }
+}
+
+// Where a field ends, from a place inside its quotes; or the place by which it can be none. The place goes on by runs, and not by one.
+pub fn quoted_end(text: &[u8], from: usize) -> Result<usize, usize>
+    ensures { ended result ≡ quoted_end false from (drop from text.now) }
 {
     let mut i = from;
-    while i < text.len() {
-        let e = inside_end(text, i);
-        if text.len() <= e {
-            return FieldEnd {
-                at: e,
-                whole: false,
-            };
-        }
-        if text[e] != 34 {
-            return FieldEnd {
-                at: e,
-                whole: false,
-            };
+    'quotes: loop {
+        let e = run_end(text, i, is_inside);
+        if text.len() <= e || text[e] != b'"' {
+            return Err(e);
         }
         let j = e + 1;
-        if text.len() <= j {
-            return FieldEnd { at: j, whole: true };
-        }
-        if text[j] != 34 {
-            return FieldEnd { at: j, whole: true };
+        if text.len() <= j || text[j] != b'"' {
+            return Ok(j);
         }
         i = j + 1;
     }
-    FieldEnd {
-        at: i,
-        whole: false,
-    }
 }
 
-// Where a field that starts at a place ends.
-pub fn field_end(text: &[u8], from: usize) -> FieldEnd
-    ensures { result ≡ field_end from (drop from text.now) }
+// Where a field that starts at a place ends; or the place by which it can be none.
+pub fn field_end(text: &[u8], from: usize) -> Result<usize, usize>
+    ensures { ended result ≡ field_end from (drop from text.now) }
 {
-    if from < text.len() {
-        if text[from] == 34 {
-            return quoted_end(text, from + 1);
-        }
+    if from < text.len() && text[from] == b'"' {
+        return quoted_end(text, from + 1);
     }
-    let p = plain_end(text, from);
-    FieldEnd {
-        at: p.at,
-        whole: true,
-    }
+    Ok(plain_end(text, from).unwrap_or(text.len().max(from)))
 }

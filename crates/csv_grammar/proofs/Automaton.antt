@@ -3,8 +3,7 @@ use Prim.Native.Nat.{ℕ, suc, ◌+◌}
 use mathlib.Core.Bool.{Bool, false, cond}
 use mathlib.Core.List.{List, [], ◌∷◌}
 use lib.Dec.{eqb, ltb}
-use Rattle.csv_grammar.specs.declared.Answer.{Answer}
-use Rattle.csv_grammar.specs.declared.Answer.TheVariants.{Counts, Refused}
+use Rattle.csv_grammar.specs.Answers.{Answer, Counts, Refused}
 
 -- what a byte is to the grammar
 pub data Kind : Type 0 where

@@ -7,8 +7,7 @@ use native.Mathlib.Omega.{arith}
 use lib.Dec.{eqb, eqb-suc-zero}
 use lib.ListN.{length}
 use borrow.Author.Tests.{eqb-true, eqb-false}
-use Rattle.csv_grammar.specs.declared.Answer.{Answer}
-use Rattle.csv_grammar.specs.declared.Answer.TheVariants.{Counts, Refused}
+use Rattle.csv_grammar.specs.Answers.{Answer, Counts, Refused}
 use Rattle.csv_grammar.specs.Grammar as G
 use Rattle.csv_grammar.specs.Table.{is_blank, rows_of, columns_of, table_of, HaveFields, Even}
 use Rattle.csv_grammar.proofs.Automaton.{Mode, Counter, Act, Letter, Inside, Close, Separate, End, Next, Refuse, kind_of, act_of, last_act, fault_of, refuse_or, end_of, read_from, read_of}

@@ -6,8 +6,7 @@ use mathlib.Core.List.{List, [], ◌∷◌, ◌++◌}
 use native.Mathlib.Omega.{arith}
 use lib.ListN.{length, take, drop, get_or, length-append}
 use lib.Seq.{take-suc, split_at, take-append_seam, get_or-append_seam, length-take-le}
-use Rattle.csv_grammar.specs.declared.Answer.{Answer}
-use Rattle.csv_grammar.specs.declared.Answer.TheVariants.{Counts, Refused}
+use Rattle.csv_grammar.specs.Answers.{Answer, Counts, Refused}
 use Rattle.csv_grammar.specs.Grammar.{Text, IsText, Begins}
 use Rattle.csv_grammar.specs.Table.{table_of, columns_of}
 use Rattle.csv_grammar.specs.Faults.{NotCsvAt, Ragged, LineEndsAt, RaggedAt, TooManyAt}

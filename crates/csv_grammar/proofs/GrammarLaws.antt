@@ -9,8 +9,7 @@ use lib.ListN.{length, drop, get_or, take-append-drop}
 use lib.Seq.{get_or-append_seam}
 use Rattle.refusals.specs.Numbers.{accepted}
 use Rattle.refusals.specs.Lines.{NumberOfFirst, NoneApplies}
-use Rattle.csv_grammar.specs.declared.Answer.{Answer}
-use Rattle.csv_grammar.specs.declared.Answer.TheVariants.{Counts, Refused}
+use Rattle.csv_grammar.specs.Answers.{Answer, Counts, Refused}
 use Rattle.csv_grammar.specs.Grammar as G
 use Rattle.csv_grammar.specs.Table.{is_blank, add_line, add_lines, table_of, with_bytes, columns_of, Even}
 use Rattle.csv_grammar.specs.Places.{no_span}

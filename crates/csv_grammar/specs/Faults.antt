@@ -3,8 +3,7 @@ use Rattle.std.specs.Prelude.{ℕ, suc, ◌<◌, ◌≡◌, ◌⊎◌, false, Li
 use Rattle.refusals.specs.Numbers.{accepted, refused_not_csv, refused_ragged_row, refused_too_many_fields}
 use Rattle.refusals.specs.Lines as lines
 use Rattle.refusals.specs.Lines.{NumberOfFirst, NoneApplies}
-use Rattle.csv_grammar.specs.declared.Answer.{Answer}
-use Rattle.csv_grammar.specs.declared.Answer.TheVariants.{Counts, Refused}
+use Rattle.csv_grammar.specs.Answers.{Answer, Counts, Refused}
 use Rattle.csv_grammar.specs.Grammar.{Text, IsText, Begins}
 use Rattle.csv_grammar.specs.Table.{is_blank, rows_of, table_of, columns_of}
 

@@ -1,7 +1,7 @@
 -- The laws of the grammar. proofs/GrammarLaws.antt has `grammar_laws : GrammarLaws`.
 use Rattle.std.specs.Prelude.{ℕ, ◌<◌, ◌≤◌, ◌≡◌, ◌⊎◌, true, List, [], ◌∷◌, ◌++◌, length}
 use Rattle.refusals.specs.Lines.{numbers_of}
-use Rattle.csv_grammar.specs.declared.Answer.{Answer}
+use Rattle.csv_grammar.specs.Answers.{Answer}
 use Rattle.csv_grammar.specs.declared.Span.{Span}
 use Rattle.csv_grammar.specs.Grammar.{Field, Line, Text, IsText, Begins}
 use Rattle.csv_grammar.specs.Table.{is_blank, table_of, with_bytes, entry, Even}

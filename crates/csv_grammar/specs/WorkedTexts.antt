@@ -1,7 +1,6 @@
 -- Texts and their answers in numerals, a guard against a slip in the definitions. proofs/WorkedTexts.antt has `worked_texts : WorkedTexts`.
 use Rattle.std.specs.Prelude.{ℕ, zero, suc, ◌≡◌, List, [], ◌∷◌, ◌++◌}
-use Rattle.csv_grammar.specs.declared.Answer.{Answer}
-use Rattle.csv_grammar.specs.declared.Answer.TheVariants.{Counts, Refused}
+use Rattle.csv_grammar.specs.Answers.{Answer, Counts, Refused}
 use Rattle.csv_grammar.specs.declared.Span.{Span}
 use Rattle.csv_grammar.specs.Grammar.{Text}
 use Rattle.csv_grammar.specs.Table.{table_of, entry}

@@ -1,15 +1,24 @@
 // RFC 4180 text: what a reading of it answers, and the part of a text where a field stands. The grammar itself is in specs/.
 #![tactic(auto)]
 
-// The counts of rows and columns, or the number of the refusal and its place.
-#[derive(Clone, Copy)]
-pub enum Answer {
-    Counts(usize, usize),
-    Refused(u64, usize),
+use refusals::Refusal;
+
+// The rows of a text, and the fields of its first row.
+#[derive(Clone, Copy, Debug, PartialEq, Eq)]
+pub struct Counts {
+    pub rows: usize,
+    pub columns: usize,
 }
 
-// A part of a text: from its start up to its end.
-#[derive(Clone, Copy)]
+// Why a text, or a part of one, is refused, and the place of that.
+#[derive(Clone, Copy, Debug, PartialEq, Eq)]
+pub struct Fault {
+    pub refusal: Refusal,
+    pub at: usize,
+}
+
+// A part of a text: from its start up to its end. No `Range`, which is not `Copy`: a part is used more than once, and the theorems name both ends.
+#[derive(Clone, Copy, Debug, PartialEq, Eq)]
 pub struct Span {
     pub start: usize,
     pub end: usize,

@@ -3,8 +3,7 @@ use Prim.Native.Nat.{ℕ}
 use mathlib.Core.Path.{◌≡◌, refl, ap, ◌∙◌}
 use mathlib.Core.List.{List, [], ◌∷◌}
 use Rattle.refusals.proofs.Lines.{none_applies}
-use Rattle.csv_grammar.specs.declared.Answer.{Answer}
-use Rattle.csv_grammar.specs.declared.Answer.TheVariants.{Counts, Refused}
+use Rattle.csv_grammar.specs.Answers.{Answer, Counts, Refused}
 use Rattle.csv_grammar.specs.Faults.{fault_lines, Reads}
 use lib.ListN.{length}
 use Rattle.csv_grammar.specs.Table.{table_of, columns_of}

@@ -2,7 +2,7 @@
 -- stands with them; `read` itself promises `Reads`, `part` promises `Part`, `field` promises `HandsOver`.
 use Rattle.std.specs.Prelude.{ℕ, ◌<◌, ◌≡◌, List, [], ◌∷◌, length}
 use Rattle.refusals.specs.Lines.{numbers_of, NumberOfFirst, NoneApplies}
-use Rattle.csv_grammar.specs.declared.Answer.{Answer}
+use Rattle.csv_grammar.specs.Answers.{Answer}
 use Rattle.csv_grammar.specs.Faults.{fault_lines, number_of, values_of, Reads}
 use Rattle.csv_grammar.specs.Grammar.{Text}
 use Rattle.csv_grammar.specs.Table.{table_of, columns_of}

@@ -2,7 +2,8 @@
 // fields, and the content of a field.
 #![tactic(auto)]
 
-pub use csv_contents::{Written, content};
-pub use csv_grammar::{Answer, Span};
+pub use csv_contents::content;
+pub use csv_grammar::{Counts, Fault, Span};
 pub use csv_reading::{MOST_FIELDS, read};
-pub use csv_walking::{Cursor, Visit, field, next, part, start};
+pub use csv_walking::{Cursor, field, next, part, start};
+pub use refusals::Refusal;

@@ -9,20 +9,22 @@ use native.Mathlib.Numerals.{add-one}
 use lib.Dec.{eqb, ltb}
 use lib.ListN.{length, drop, get_or, drop_of_length-le, length-drop}
 use lib.Seq.{drop-cons}
-use borrow.Author.Tests.{eq-eqb, ne_eqb, eqb-true, eqb-false, ltb-true, ltb-false}
-use Rattle.csv_grammar.specs.declared.Answer.{Answer}
-use Rattle.csv_grammar.specs.declared.Answer.TheVariants.{Counts, Refused}
+use borrow.Author.Tests.{eq-eqb, ne_eqb, eqb-true, eqb-false, ltb-true, ltb-false, lt-ltb, le-ltb}
+use Rattle.std.specs.Prelude.{Some, None, Ok, Err}
+use Rattle.csv_grammar.specs.declared.Counts as code
+use Rattle.csv_grammar.specs.declared.Fault.{Fault}
+use Rattle.csv_grammar.specs.Answers.{Answer, Counts, Refused, answered}
 use Rattle.csv_grammar.proofs.Automaton.{Kind, Plain, Comma, Quote, Cr, Lf, Control, Mode, Fresh, Bare, Quoted, Closed, Return, End, Refuse, Counter, kind_of, act_of, blank_line, fault_of, counted, skip_line, moved, refuse_or, end_of, read_from}
 use Rattle.csv_grammar.proofs.Division.{Ends}
 use Rattle.csv_grammar.proofs.Letters.{Told, told, split, kind_plain}
-use Rattle.csv_fields.specs.declared.FieldEnd.{FieldEnd}
-use Rattle.csv_fields.specs.Ends.{is_text_data, is_inside, plain_end, quoted_end, field_end}
+use Rattle.csv_fields.specs.Ends.{FieldEnd, PlainEnd, is_text_data, is_inside, plain_end, plain_end_in, quoted_end, field_end}
+use Rattle.csv_fields.specs.Answers.{ended, plain_ended}
 use Rattle.csv_fields.proofs.Bytes.{textdata, textdata_only, textdata_bounds, inside_textdata, inside_other, inside_no}
 use Rattle.csv_fields.proofs.Runs.{quote_opens, no_quote_field}
 use Rattle.csv_fields.proofs.FieldsLaws.{plain_within, quoted_within}
-use Rattle.csv_reading.specs.declared.Tally.{Tally}
-use Rattle.csv_reading.specs.declared.Progress.{Progress}
-use Rattle.csv_reading.specs.Steps.{over_at, answer_of, ragged, with_line, after_comma, lf_at, blank_from, after_cr, at_end, at_byte, after_field, after_end, step_of}
+use Rattle.csv_reading.specs.declared.Reader.{Reader}
+use Rattle.csv_reading.specs.Comes.{tally_of, Comes}
+use Rattle.csv_reading.specs.Steps.{Tally, Progress, going_on, over_at, answer_of, ragged, with_line, after_comma, lf_at, blank_from, after_cr, at_end, at_byte, after_field, after_end, step_of}
 
 -- the counts, in a mode
 abbrev pub counter : Mode → Tally → Counter
@@ -178,7 +180,7 @@ module _ (text : List ℕ) (c : Tally) (i : ℕ) (h : i ≤ length text) where
       by true y l = rw (kind_plain (textdata_only b y))
       by false y l = absurd (omega arith)
 
-  plain_bounds : (i ≤ plain_end i (drop i text)) × (plain_end i (drop i text) ≤ length text)
+  pub plain_bounds : (i ≤ plain_end i (drop i text)) × (plain_end i (drop i text) ≤ length text)
   plain_bounds = let w = plain_within (drop i text) i in omega (arith, length-drop i text)
 
   pub plain_reached : (i < length text → get_or text i 0 ≡ 34 → ⊥) → (m : Mode) × Reached text c i (plain_end i (drop i text)) m (blank_from c i (plain_end i (drop i text)))
@@ -279,10 +281,15 @@ unfolding counted with_line ragged
 counted_line m c true q = refl
 counted_line m c false q = ap (λ (n : ℕ). record { mode = Return; row = c.rows + 1; column = 0; first = n }) (first_row (eqb c.rows 0) (eqb (c.fields + 1) c.columns) (c.fields + 1) c.columns refl q)
 
-line_small : (c : Tally) (skip : Bool) → ((with_line c skip).rows ≤ c.rows + 1) × ((with_line c skip).fields ≤ 0)
+pub line_small : (c : Tally) (skip : Bool) → ((with_line c skip).rows ≤ c.rows + 1) × ((with_line c skip).fields ≤ 0)
 unfolding with_line
 line_small c true = omega arith
 line_small c false = omega arith
+
+pub line_is : (c : Tally) (skip : Bool) (r k : ℕ) → r ≡ (with_line c skip).rows → k ≡ (with_line c skip).columns → with_line c skip ≡ record { rows = r; fields = 0; columns = k }
+unfolding with_line
+line_is c true r k p q = λ j. record { rows = sym p j; fields = 0; columns = sym q j }
+line_is c false r k p q = λ j. record { rows = sym p j; fields = 0; columns = sym q j }
 
 -- the counts after a comma
 abbrev commad : Tally → Tally
@@ -458,3 +465,54 @@ module _ (text : List ℕ) (c : Tally) (i : ℕ) (h : i ≤ length text) (rows :
       by false l =
           let n : i < length text → get_or text i 0 ≡ 34 → ⊥ = λ k b. omega (arith, ltb-false i (length text) l) in
           subst⁻¹ (λ (f : FieldEnd). Continues text c i (after_end text c i f)) (no_quote_field text i n) (plain_continues n)
+
+-- ---- a step by what the code finds
+
+module _ (t : List ℕ) (c : Tally) (i : ℕ) where
+  byte_after : (e : ℕ) → e < length t → after_field t c i e ≡ at_byte t c i e
+  unfolding after_field
+  byte_after e l = rw (lt-ltb e (length t) l)
+
+  end_after : (e : ℕ) → length t ≤ e → after_field t c i e ≡ at_end c i e
+  unfolding after_field
+  end_after e l = rw (le-ltb e (length t) l)
+
+  module _ (l : i < length t) (q : get_or t i 0 ≡ 34) where
+    pub quoted_step : (f : FieldEnd) → f ≡ quoted_end false (i + 1) (drop (i + 1) t) → step_of t c i ≡ after_end t c i f
+    unfolding step_of
+    quoted_step f e = ap (after_end t c i) (quote_opens t i l q ∙ sym e)
+
+    pub quoted_byte : (e : ℕ) → ended (Ok e) ≡ quoted_end false (i + 1) (drop (i + 1) t) → e < length t → step_of t c i ≡ at_byte t c i e
+    quoted_byte e h k = quoted_step (ended (Ok e)) h ∙ byte_after e k
+
+    pub quoted_last : (e : ℕ) → ended (Ok e) ≡ quoted_end false (i + 1) (drop (i + 1) t) → length t ≤ e → step_of t c i ≡ at_end c i e
+    quoted_last e h k = quoted_step (ended (Ok e)) h ∙ end_after e k
+
+  module _ (n : i < length t → get_or t i 0 ≡ 34 → ⊥) where
+    plain_step : step_of t c i ≡ after_field t c i (plain_end i (drop i t))
+    unfolding step_of
+    plain_step = ap (after_end t c i) (no_quote_field t i n)
+
+    pub plain_byte : i ≤ length t → (e : ℕ) → plain_ended t i (Some e) ≡ plain_end_in t i → (i ≤ e) × (e < length t) × (step_of t c i ≡ at_byte t c i e)
+    plain_byte h e p =
+        let a : e ≡ plain_end i (drop i t) = ap (λ (x : PlainEnd). x.at) p in
+        let k = ltb-true (plain_end i (drop i t)) (length t) (sym (ap (λ (x : PlainEnd). x.within) p)) in
+        (omega (arith, a, (plain_bounds t c i h).0), omega (arith, a, k), plain_step ∙ (byte_after (plain_end i (drop i t)) k ∙ ap (at_byte t c i) (sym a)))
+
+    pub plain_last : i ≤ length t → plain_ended t i None ≡ plain_end_in t i → step_of t c i ≡ at_end c i (length t)
+    plain_last h p =
+        let k = ltb-false (plain_end i (drop i t)) (length t) (sym (ap (λ (x : PlainEnd). x.within) p)) in
+        let e : plain_end i (drop i t) ≡ length t = omega (arith, k, (plain_bounds t c i h).1) in
+        plain_step ∙ (end_after (plain_end i (drop i t)) k ∙ ap (at_end c i) e)
+
+-- ---- and by what the code answers
+
+module _ (t : List ℕ) (c : Tally) (i : ℕ) (r : Reader) (p : Progress) (w : Continues t c i p) where
+  pub goes_on : Comes (Ok None) r p → Continues t c i (going_on (tally_of r) r.at)
+  goes_on e = subst (Continues t c i) e w
+
+  pub counts_all : (x : code.Counts) → Comes (Ok (Some x)) r p → read_at t Fresh c i ≡ answered (Ok x)
+  counts_all x e = subst (λ (b : Bool). ContinuesBy b t c i p) e.0 w ∙ e.1
+
+  pub finds_fault : (f : Fault) → Comes (Err f) r p → read_at t Fresh c i ≡ answered (Err f)
+  finds_fault f e = subst (λ (b : Bool). ContinuesBy b t c i p) e.0 w ∙ e.1

@@ -1,2 +1,3 @@
 -- One step of a reading.
 pub mod Steps
+pub mod Comes

@@ -1,12 +1,21 @@
 -- One step of a reading, a field and what follows it, as the code goes. `read` itself promises `Reads`, by the grammar alone.
 use Rattle.std.specs.Prelude.{ℕ, ◌+◌, Bool, true, false, cond, List, eqb, ltb, length, drop, get_or}
 use Rattle.refusals.specs.Numbers.{accepted, refused_not_csv, refused_ragged_row, refused_too_many_fields}
-use Rattle.csv_grammar.specs.declared.Answer.{Answer}
-use Rattle.csv_grammar.specs.declared.Answer.TheVariants.{Counts, Refused}
-use Rattle.csv_fields.specs.declared.FieldEnd.{FieldEnd}
-use Rattle.csv_fields.specs.Ends.{field_end}
-use Rattle.csv_reading.specs.declared.Tally.{Tally}
-use Rattle.csv_reading.specs.declared.Progress.{Progress}
+use Rattle.csv_grammar.specs.Answers.{Answer, Counts, Refused}
+use Rattle.csv_fields.specs.Ends.{FieldEnd, field_end}
+
+-- the rows before this line, the fields before this one in its line, and the fields of the first row
+pub record Tally : Type 0 where
+  pub rows : ℕ
+  pub fields : ℕ
+  pub columns : ℕ
+
+-- what a reading comes to after a field: it goes on with these counts at a later place, or is over, with a refusal and its place or with the counts
+pub record Progress : Type 0 where
+  pub over : Bool
+  pub number : ℕ
+  pub at : ℕ
+  pub tally : Tally
 
 -- the reading goes on with these counts at a place
 abbrev pub going_on : Tally → (at : ℕ) → Progress

@@ -1,221 +1,179 @@
 // Reading RFC 4180 text: the counts of its rows and columns, or its first fault. The reading goes field by field.
 #![tactic(auto)]
 
-ghost use Rattle.std.specs.Prelude.{◌≡◌, ◌+◌, ◌<◌, ◌^◌, ltb, length};
+ghost use Rattle.std.specs.Prelude.{◌≡◌, ◌+◌, ◌<◌, ◌≤◌, length};
+ghost use Rattle.csv_grammar.specs.Answers.{answered};
 ghost use Rattle.csv_grammar.specs.Faults.{Reads};
-ghost use Rattle.csv_reading.specs.Steps.{going_on, over_at, answer_of, ragged, with_line, after_comma, blank_from, after_cr, at_end, at_byte, after_field, step_of};
+ghost use Rattle.csv_reading.specs.Steps.{ragged, with_line, after_comma, blank_from, after_cr, at_end, at_byte, step_of};
 
-use csv_grammar::Answer;
-use refusals::numbers;
+use csv_grammar::{Counts, Fault};
+use refusals::Refusal;
 
 // The most fields that a row may have.
 pub const MOST_FIELDS: usize = 32;
 
-// The rows before this line, the fields before this one in its line, and the fields of the first row.
+// What a step comes to where the text is refused at a place.
+fn refused(refusal: Refusal, at: usize) -> Result<Option<Counts>, Fault>
+    ensures { result ≡ Err (record { refusal = refusal; at = at }) }
+{
+    Err(Fault { refusal, at })
+}
+
+// A reader of a text: the place of the next field, the rows before this line, the fields before this one in its line, and the fields of the first row.
 #[derive(Clone, Copy)]
-pub struct Tally {
-    pub rows: usize,
-    pub fields: usize,
-    pub columns: usize,
+struct Reader<'a> {
+    text: &'a [u8],
+    at: usize,
+    rows: usize,
+    fields: usize,
+    columns: usize,
+    ghost within: { at ≤ length text.now },
+    ghost rows_before: { rows ≤ at },
+    ghost fields_before: { fields ≤ at },
 }
 
-// What a reading comes to after a field: it goes on with these counts at a later place, or is over, with a refusal and its place or with the counts.
-#[derive(Clone, Copy)]
-pub struct Progress {
-    pub over: bool,
-    pub number: u64,
-    pub at: usize,
-    pub tally: Tally,
-}
+// Where a method is told of a place e, it asks that e is within the text and not before the reader's own place: that is said of the place, so no invariant of
+// the reader can hold it. Each method that goes on says that the text is the same one.
+impl<'a> Reader<'a> {
+    ghost use Rattle.csv_reading.specs.Comes.{tally_of, Comes};
 
-fn going_on(c: Tally, at: usize) -> Progress
-    ensures { result ≡ going_on c at }
-{
-    Progress {
-        over: false,
-        number: numbers::ACCEPTED,
-        at: at,
-        tally: c,
+    // Whether the line that ends here is a row, not the first, and has not as many fields as the first.
+    #[tactic(auto, unfolding(crate::specs::Steps::ragged))]
+    fn is_ragged(&self, blank: bool) -> bool
+        ensures { result ≡ ragged (tally_of self.now) blank }
+    {
+        self.fields + 1 != self.columns && self.rows != 0 && !blank
     }
-}
 
-fn over(number: u64, at: usize, c: Tally) -> Progress
-    ensures { result ≡ over_at number at c }
-{
-    Progress {
-        over: true,
-        number: number,
-        at: at,
-        tally: c,
-    }
-}
-
-// Whether the line that ends here is a row, not the first, and has not as many fields as the first.
-fn is_ragged(c: Tally, blank: bool) -> bool
-    requires { c.fields + 1 < 2 ^ 64 }
-    ensures { result ≡ ragged c blank }
-{
-    if blank {
-        return false;
-    }
-    if c.rows == 0 {
-        return false;
-    }
-    if c.fields + 1 == c.columns {
-        return false;
-    }
-    true
-}
-
-// The counts after a line, which is skipped, or is a row that is not ragged.
-fn with_line(c: Tally, skipped: bool) -> Tally
-    requires { (c.fields + 1 < 2 ^ 64) × (c.rows + 1 < 2 ^ 64) }
-    ensures { result ≡ with_line c skipped }
-{
-    if skipped {
-        return Tally {
-            rows: c.rows,
-            fields: 0,
-            columns: c.columns,
-        };
-    }
-    Tally {
-        rows: c.rows + 1,
-        fields: 0,
-        columns: c.fields + 1,
-    }
-}
-
-// A comma at place e.
-fn after_comma(c: Tally, e: usize) -> Progress
-    requires { (c.fields + 1 < 2 ^ 64) × (e + 1 < 2 ^ 64) }
-    ensures { result ≡ after_comma c e }
-{
-    if c.fields + 1 == MOST_FIELDS {
-        return over(numbers::REFUSED_TOO_MANY_FIELDS, e, c);
-    }
-    going_on(
-        Tally {
-            rows: c.rows,
-            fields: c.fields + 1,
-            columns: c.columns,
-        },
-        e + 1,
-    )
-}
-
-// Whether a field from place i to place e is the only one of a line of no bytes, if it ends its line.
-fn is_blank(c: Tally, i: usize, e: usize) -> bool
-    ensures { result ≡ blank_from c i e }
-{
-    if e == i {
-        return c.fields == 0;
-    }
-    false
-}
-
-// A CR at place e, after the last field of a line, which started at place i.
-fn after_cr(text: &[u8], c: Tally, i: usize, e: usize) -> Progress
-    requires { (c.fields + 1 < 2 ^ 64) × (c.rows + 1 < 2 ^ 64) × (e < length text.now) }
-    ensures { result ≡ after_cr text.now c i e }
-{
-    let blank = is_blank(c, i, e);
-    if is_ragged(c, blank) {
-        return over(numbers::REFUSED_RAGGED_ROW, e, c);
-    }
-    let j = e + 1;
-    if j < text.len() {
-        if text[j] == 10 {
-            return going_on(with_line(c, blank), j + 1);
+    // The counts after a line, which is skipped, or is a row that is not ragged.
+    #[tactic(auto, unfolding(crate::specs::Steps::with_line))]
+    fn counts(&self, skipped: bool) -> Counts
+        ensures rows { result.rows ≡ (with_line (tally_of self.now) skipped).rows }
+        ensures columns { result.columns ≡ (with_line (tally_of self.now) skipped).columns }
+    {
+        if skipped {
+            return Counts {
+                rows: self.rows,
+                columns: self.columns,
+            };
+        }
+        Counts {
+            rows: self.rows + 1,
+            columns: self.fields + 1,
         }
     }
-    over(numbers::REFUSED_NOT_CSV, j, c)
-}
 
-// The end of the text, at place e, after the last field of its last line, which started at place i.
-fn at_end(c: Tally, i: usize, e: usize) -> Progress
-    requires { (c.fields + 1 < 2 ^ 64) × (c.rows + 1 < 2 ^ 64) }
-    ensures { result ≡ at_end c i e }
-{
-    let blank = is_blank(c, i, e);
-    if is_ragged(c, blank) {
-        return over(numbers::REFUSED_RAGGED_ROW, e, c);
+    // Whether a field that ends at place e is the only one of a line of no bytes, if it ends its line.
+    #[tactic(auto, unfolding(crate::specs::Steps::blank_from))]
+    fn is_blank(&self, e: usize) -> bool
+        ensures { result ≡ blank_from (tally_of self.now) self.now.at e }
+    {
+        e == self.at && self.fields == 0
     }
-    over(numbers::ACCEPTED, e, with_line(c, blank))
-}
 
-// The byte at place e, after a field from place i.
-fn at_byte(text: &[u8], c: Tally, i: usize, e: usize) -> Progress
-    requires { (c.fields + 1 < 2 ^ 64) × (c.rows + 1 < 2 ^ 64) × (e < length text.now) }
-    ensures { result ≡ at_byte text.now c i e }
-{
-    let b = text[e];
-    if b == 44 {
-        return after_comma(c, e);
+    // A comma at place e.
+    #[tactic(auto, unfolding(crate::specs::Steps::after_comma, crate::specs::Steps::answer_of))]
+    fn after_comma(&mut self, e: usize) -> Result<Option<Counts>, Fault>
+        requires { (self.old.at ≤ e) × (e < length self.old.text.now) }
+        ensures comes { Comes result self.new (after_comma (tally_of self.old) e) }
+        ensures same { self.new.text ≡ self.old.text }
+    {
+        if self.fields + 1 == MOST_FIELDS {
+            return refused(Refusal::TooManyFields, e);
+        }
+        self.fields += 1;
+        self.at = e + 1;
+        Ok(None)
     }
-    if b == 13 {
-        return after_cr(text, c, i, e);
-    }
-    over(numbers::REFUSED_NOT_CSV, e, c)
-}
 
-// What follows a field from place i to place e, which is within the text or its end.
-fn after_field(text: &[u8], c: Tally, i: usize, e: usize, within: bool) -> Progress
-    requires { (c.fields + 1 < 2 ^ 64) × (c.rows + 1 < 2 ^ 64) × (within ≡ ltb e (length text.now)) }
-    ensures { result ≡ after_field text.now c i e }
-{
-    if within {
-        return at_byte(text, c, i, e);
+    // A CR at place e, after the last field of a line.
+    #[tactic(auto, unfolding(crate::specs::Steps::after_cr, crate::specs::Steps::answer_of))]
+    fn after_cr(&mut self, e: usize) -> Result<Option<Counts>, Fault>
+        requires { (self.old.at ≤ e) × (e < length self.old.text.now) }
+        ensures comes { Comes result self.new (after_cr self.old.text.now (tally_of self.old) self.old.at e) }
+        ensures same { self.new.text ≡ self.old.text }
+    {
+        let blank = self.is_blank(e);
+        if self.is_ragged(blank) {
+            return refused(Refusal::RaggedRow, e);
+        }
+        let j = e + 1;
+        if j == self.text.len() || self.text[j] != b'\n' {
+            return refused(Refusal::NotCsv, j);
+        }
+        let c = self.counts(blank);
+        self.rows = c.rows;
+        self.columns = c.columns;
+        self.fields = 0;
+        self.at = j + 1;
+        Ok(None)
     }
-    at_end(c, i, e)
-}
 
-// A field that starts at place i, and what follows it.
-fn step(text: &[u8], c: Tally, i: usize) -> Progress
-    requires { (c.fields + 1 < 2 ^ 64) × (c.rows + 1 < 2 ^ 64) }
-    ensures { result ≡ step_of text.now c i }
-{
-    if i < text.len() {
-        if text[i] == 34 {
-            let f = csv_fields::quoted_end(text, i + 1);
-            let e = f.at;
-            if f.whole {
-                return after_field(text, c, i, e, e < text.len());
-            }
-            return over(numbers::REFUSED_NOT_CSV, e, c);
+    // The end of the text, at place e, after the last field of its last line.
+    #[tactic(auto, unfolding(crate::specs::Steps::at_end, crate::specs::Steps::answer_of))]
+    fn at_end(&self, e: usize) -> Result<Option<Counts>, Fault>
+        ensures { Comes result self.now (at_end (tally_of self.now) self.now.at e) }
+    {
+        let blank = self.is_blank(e);
+        if self.is_ragged(blank) {
+            return refused(Refusal::RaggedRow, e);
+        }
+        Ok(Some(self.counts(blank)))
+    }
+
+    // The byte at place e, after a field.
+    #[tactic(auto, unfolding(crate::specs::Steps::at_byte, crate::specs::Steps::answer_of))]
+    fn at_byte(&mut self, e: usize) -> Result<Option<Counts>, Fault>
+        requires { (self.old.at ≤ e) × (e < length self.old.text.now) }
+        ensures comes { Comes result self.new (at_byte self.old.text.now (tally_of self.old) self.old.at e) }
+        ensures same { self.new.text ≡ self.old.text }
+    {
+        match self.text[e] {
+            b',' => self.after_comma(e),
+            b'\r' => self.after_cr(e),
+            _ => refused(Refusal::NotCsv, e),
         }
     }
-    let p = csv_fields::plain_end(text, i);
-    after_field(text, c, i, p.at, p.within)
-}
 
-// The answer of a reading that is over.
-fn answer_of(p: Progress) -> Answer
-    ensures { result ≡ answer_of p }
-{
-    if p.number == numbers::ACCEPTED {
-        let c = p.tally;
-        return Answer::Counts(c.rows, c.columns);
+    // The next field, and what follows it: none where the reading goes on, or the text's counts.
+    fn step(&mut self) -> Result<Option<Counts>, Fault>
+        ensures comes { Comes result self.new (step_of self.old.text.now (tally_of self.old) self.old.at) }
+        ensures same { self.new.text ≡ self.old.text }
+    {
+        let i = self.at;
+        if i < self.text.len() && self.text[i] == b'"' {
+            return match csv_fields::quoted_end(self.text, i + 1) {
+                Ok(e) => {
+                    if e < self.text.len() {
+                        self.at_byte(e)
+                    } else {
+                        self.at_end(e)
+                    }
+                }
+                Err(at) => refused(Refusal::NotCsv, at),
+            };
+        }
+        match csv_fields::plain_end(self.text, i) {
+            Some(e) => self.at_byte(e),
+            None => self.at_end(self.text.len()),
+        }
     }
-    Answer::Refused(p.number, p.at)
 }
 
-// The counts of rows and columns of a text, or its first fault.
-pub fn read(text: &[u8]) -> Answer
-    ensures { Reads text.now result }
+// The counts of rows and columns of a text, or its first fault. The loop counts nothing: it takes steps until one answers.
+pub fn read(text: &[u8]) -> Result<Counts, Fault>
+    ensures { Reads text.now (answered result) }
 {
-    let mut c = Tally {
+    let mut reader = Reader {
+        text,
+        at: 0,
         rows: 0,
         fields: 0,
         columns: 0,
     };
-    let mut i: usize = 0;
-    loop {
-        let p = step(text, c, i);
-        if p.over {
-            return answer_of(p);
+    'fields: loop {
+        if let Some(counts) = reader.step()? {
+            return Ok(counts);
         }
-        c = p.tally;
-        i = p.at;
     }
 }

@@ -1,4 +1,4 @@
--- The loop of `find`, turn by turn, and what `part` and `field` hand over.
+-- The loop of `find`, turn by turn.
 use Prim.Native.Nat.{ℕ, zero, suc, ◌-◌}
 use mathlib.Core.Path.{◌≡◌, refl, sym, ap, ◌∙◌, subst, subst⁻¹}
 use mathlib.Core.Bool.{Bool, true, false}
@@ -6,17 +6,15 @@ use mathlib.Core.List.{List, [], ◌∷◌}
 use native.Mathlib.Omega.{arith}
 use lib.Dec.{eqb-suc-zero}
 use lib.ListN.{get_or}
-use Rattle.csv_grammar.specs.declared.Answer.TheVariants.{Counts, Refused}
 use Rattle.csv_grammar.specs.declared.Span.{Span}
 use Rattle.csv_grammar.specs.Grammar.{Text}
-use Rattle.csv_grammar.specs.Faults.{Reads}
 use Rattle.csv_grammar.specs.Places.{spans_of, no_span, span_at}
 use Rattle.csv_walking.specs.declared.Cursor.{Cursor}
-use Rattle.csv_walking.specs.declared.Visit.TheVariants.{Field, Done}
+use Rattle.csv_walking.specs.Visits.{Field, Done}
 use Rattle.csv_walking.specs.declared.Sought.{Sought}
 use Rattle.csv_walking.specs.declared.Sought.TheVariants.{Here, Nowhere, Later}
 use Rattle.csv_walking.specs.Walking.{next_of, first, Walks, done, more, last}
-use Rattle.csv_walking.specs.Parts.{Part, sought_of, Found}
+use Rattle.csv_walking.specs.Parts.{sought_of, Found}
 use Rattle.csv_walking.proofs.Walking.{walks, visited}
 
 -- what an answer of the search says of the rows still to come
@@ -89,12 +87,3 @@ module _ (t : List ℕ) (row column : ℕ) (w : Cursor) (r k : ℕ) (h : Searchi
         let x = h ls l p in
         let y = subst (Sees t v x.0 r k s) (sym o) (sought t x.1 v s e r k) in
         (y.0, y.1, y.2 ∙ x.2)
-
--- ---- the part
-
-pub part_found : (t : List ℕ) (row column rows columns : ℕ) (s : Span) → Reads t (Counts rows columns) → Found t row column s → Part t row column s
-part_found t row column rows columns s h f =
-    record { place = (Counts rows columns, h, (h.1, h.2, h.3, f.place h.1 h.2 h.3)); starts = f.starts; ends = f.ends }
-
-pub part_refused : (t : List ℕ) (row column number place : ℕ) → Reads t (Refused number place) → Part t row column no_span
-part_refused t row column number place h = record { place = (Refused number place, h, refl); starts = omega arith; ends = omega arith }

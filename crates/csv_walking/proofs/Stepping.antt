@@ -1,5 +1,5 @@
 -- The functions of a walk, turn by turn.
-use Prim.Native.Nat.{ℕ, suc, ◌+◌, ◌-◌, ◌<◌, ◌≤◌}
+use Prim.Native.Nat.{ℕ, suc, ◌+◌, ◌<◌, ◌≤◌}
 use mathlib.Core.Path.{◌≡◌, refl, sym, ap, ◌∙◌}
 use mathlib.Core.Bool.{Bool, true, false, cond}
 use mathlib.Core.List.{List, [], ◌∷◌}
@@ -8,14 +8,8 @@ use native.Mathlib.Numerals.{add-one}
 use lib.Dec.{eqb}
 use lib.ListN.{length, drop, get_or, drop_of_length-le}
 use lib.Seq.{drop-cons}
-use borrow.Author.Tests.{eq-eqb, ne_eqb, lt-ltb, le-ltb, lt-leb}
-use Rattle.csv_fields.specs.declared.FieldEnd.{FieldEnd}
-use Rattle.csv_fields.specs.Ends.{field_end}
-use Rattle.csv_walking.specs.declared.Cursor.{Cursor}
-use Rattle.csv_walking.specs.declared.Visit.TheVariants.{Field, Done}
-use Rattle.csv_walking.specs.declared.Sought.TheVariants.{Here, Nowhere, Later}
-use Rattle.csv_walking.specs.Walking.{skip_from, start_of, over_at, after_field, next_of}
-use Rattle.csv_walking.specs.Parts.{sought_of}
+use borrow.Author.Tests.{eq-eqb, ne_eqb, lt-ltb, le-ltb}
+use Rattle.csv_walking.specs.Walking.{skip_from, after_field}
 
 -- ---- lines of no bytes
 
@@ -71,37 +65,3 @@ module _ (text : List ℕ) (e : ℕ) where
   pub after_end_lem : length text ≤ e → record { at = e; inside = false } ≡ after_field text e
   unfolding after_field
   after_end_lem h = rw (le-ltb e (length text) h)
-
--- ---- the next field
-
--- before the text's end a field starts
-pub not_over : (inside : Bool) (i n : ℕ) → i < n → over_at inside i n ≡ false
-not_over true i n h = le-ltb n i (omega arith)
-not_over false i n h = lt-leb n i h
-
-module _ (text : List ℕ) (w : Cursor) (i : ℕ) (ei : i ≡ start_of text w) (f : Bool) (ef : f ≡ over_at w.inside i (length text)) where
-  pub next_done : f ≡ true → Done ≡ next_of text w
-  unfolding next_of
-  next_done y = rw (← ei, ← ef, y)
-
-  pub next_field : f ≡ false → (s : FieldEnd) → s ≡ field_end i (drop i text) → (v : Cursor) → v ≡ after_field text s.at → Field (record { start = i; end = s.at }) v ≡ next_of text w
-  unfolding next_of
-  next_field z s es v ev = rw (← ei, ← ef, z, ev, es)
-
--- ---- looking for a field
-
-module _ (inside : Bool) (r k : ℕ) where
-  pub seek_here : r ≡ 0 → k ≡ 0 → Here ≡ sought_of inside r k
-  seek_here a b = rw (eq-eqb r 0 a, eq-eqb k 0 b)
-
-  pub seek_right : r ≡ 0 → (k ≡ 0 → ⊥) → inside ≡ true → Later r (k - 1) ≡ sought_of inside r k
-  seek_right a b i = rw (eq-eqb r 0 a, ne_eqb k 0 b, i)
-
-  pub seek_nowhere : r ≡ 0 → (k ≡ 0 → ⊥) → inside ≡ false → Nowhere ≡ sought_of inside r k
-  seek_nowhere a b i = rw (eq-eqb r 0 a, ne_eqb k 0 b, i)
-
-  pub seek_row : (r ≡ 0 → ⊥) → inside ≡ true → Later r k ≡ sought_of inside r k
-  seek_row a i = rw (ne_eqb r 0 a, i)
-
-  pub seek_down : (r ≡ 0 → ⊥) → inside ≡ false → Later (r - 1) k ≡ sought_of inside r k
-  seek_down a i = rw (ne_eqb r 0 a, i)

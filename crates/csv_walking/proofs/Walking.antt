@@ -16,14 +16,12 @@ use Rattle.csv_grammar.specs.Places.{line_spans, line_end, spans_from, spans_of}
 use Rattle.csv_grammar.proofs.Letters.{split}
 use Rattle.csv_grammar.proofs.Places.{rest, fits, past_comma, past_line, line_end_lem}
 use Rattle.csv_grammar.proofs.GrammarLaws.{several}
-use Rattle.csv_fields.specs.declared.FieldEnd.{FieldEnd}
-use Rattle.csv_fields.specs.Ends.{field_end}
+use Rattle.csv_fields.specs.Ends.{FieldEnd, field_end}
 use Rattle.csv_fields.specs.FieldsLaws.{Follows, nothing, comma, cr}
 use Rattle.csv_fields.proofs.Bytes.{textdata, textdata_bounds}
 use Rattle.csv_fields.proofs.FieldsLaws.{field_ends, ends_within}
 use Rattle.csv_walking.specs.declared.Cursor.{Cursor}
-use Rattle.csv_walking.specs.declared.Visit.{Visit}
-use Rattle.csv_walking.specs.declared.Visit.TheVariants.{Field, Done}
+use Rattle.csv_walking.specs.Visits.{Visit, Field, Done}
 use Rattle.csv_walking.specs.Walking.{skip_from, over_at, after_field, visit_at, next_of, first, Walks, done, more, last, ahead}
 use Rattle.csv_walking.proofs.Stepping.{after_comma_lem, after_line, after_end_lem}
 

@@ -1,8 +1,7 @@
 -- Document 02, item 1: "Each field is handed over as a part of the caller's own text, quotes included, by row and column from 0 (an empty part where
 -- there is none or the text is refused)".
 use Rattle.std.specs.Prelude.{ℕ, ◌+◌, ◌-◌, ◌≤◌, ◌≡◌, Bool, true, false, List, eqb, length}
-use Rattle.csv_grammar.specs.declared.Answer.{Answer}
-use Rattle.csv_grammar.specs.declared.Answer.TheVariants.{Counts, Refused}
+use Rattle.csv_grammar.specs.Answers.{Answer, Counts, Refused}
 use Rattle.csv_grammar.specs.declared.Span.{Span}
 use Rattle.csv_grammar.specs.Grammar.{Text}
 use Rattle.csv_grammar.specs.Faults.{Reads}

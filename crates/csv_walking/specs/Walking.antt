@@ -3,8 +3,7 @@ use Rattle.std.specs.Prelude.{ℕ, suc, ◌+◌, ◌-◌, ◌*◌, ◌≡◌, Bo
 use Rattle.csv_grammar.specs.declared.Span.{Span}
 use Rattle.csv_fields.specs.Ends.{field_end}
 use Rattle.csv_walking.specs.declared.Cursor.{Cursor}
-use Rattle.csv_walking.specs.declared.Visit.{Visit}
-use Rattle.csv_walking.specs.declared.Visit.TheVariants.{Field, Done}
+use Rattle.csv_walking.specs.Visits.{Visit, Field, Done}
 
 -- past the lines of no bytes, CR LF at their start, where t stands at place i
 unfoldable pub skip_from : (i : ℕ) (t : List ℕ) → ℕ

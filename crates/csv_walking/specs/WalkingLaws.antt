@@ -1,14 +1,13 @@
 -- The laws of walks and parts. proofs/WalkingLaws.antt has `walking_laws : WalkingLaws`.
 use Rattle.std.specs.Prelude.{ℕ, ◌+◌, ◌<◌, ◌≤◌, ◌≡◌, ◌⊎◌, List, [], length}
-use Rattle.csv_grammar.specs.declared.Answer.{Answer}
-use Rattle.csv_grammar.specs.declared.Answer.TheVariants.{Counts}
+use Rattle.csv_grammar.specs.Answers.{Answer, Counts}
 use Rattle.csv_grammar.specs.declared.Span.{Span}
 use Rattle.csv_grammar.specs.Grammar.{Field, Text}
 use Rattle.csv_grammar.specs.Table.{table_of, entry}
 use Rattle.csv_grammar.specs.Faults.{number_of, Reads}
 use Rattle.csv_grammar.specs.Places.{spans_of, StandsAt}
 use Rattle.csv_walking.specs.declared.Cursor.{Cursor}
-use Rattle.csv_walking.specs.declared.Visit.TheVariants.{Field as Visited}
+use Rattle.csv_walking.specs.Visits.{Field as Visited}
 use Rattle.csv_walking.specs.Walking.{next_of, first, Walks, ahead}
 use Rattle.csv_walking.specs.Parts.{Part, FieldAt, HandsOver}
 

@@ -7,90 +7,116 @@ ghost use Rattle.galois.specs.Words.{tabulate};
 ghost use Rattle.applying.specs.Applying.{applied};
 
 use generator::State;
-use printing::{end_with, named, number, text};
-use strumok::{Answer, apply, move_by, open, window};
+use printing::{Bytes, Out, number_and_state};
+use std::fmt;
+use std::fmt::Write;
+use strumok::{apply, move_by, open, window};
 use trials::{opened_at, tables};
 
 // ---- the lengths of a key
 
-fn key_length(key: &[u8]) {
-    let iv = tables::IV;
-    let opened = open(key, &iv);
-    text(b"open ");
-    number(key.len() as u64);
-    text(b": ");
-    number(opened.number);
-    text(b"\n");
-}
-
-fn key_lengths() {
-    let key = tables::KEY;
-    key_length(&key[..31]);
-    key_length(&key[..32]);
-    key_length(&key[..33]);
-    key_length(&key[..63]);
-    key_length(&key[..64]);
-    key_length(&key);
+fn key_lengths(out: &mut Out, key: &[u8; 65], iv: &[u8]) -> fmt::Result {
+    let keys = [
+        &key[..31],
+        &key[..32],
+        &key[..33],
+        &key[..63],
+        &key[..64],
+        &key[..],
+    ];
+    for key in keys {
+        let (number, _) = number_and_state(open(key, iv));
+        writeln!(out, "open {}: {number}", key.len())?;
+    }
+    Ok(())
 }
 
 // ---- the edges of a size
 
-// The name of a line, with the number and the position of an answer.
-fn answer(bits: u64, name: &[u8], a: Answer) {
-    named(bits, name);
-    number(a.number);
-    text(b" ");
-    number(a.state.position);
+// What a call answers, as the number and the state that its line prints, and what it leaves in sixteen bytes that it is lent.
+#[derive(Clone, Copy)]
+struct Edge {
+    number: u64,
+    state: State,
+    bytes: [u8; 16],
 }
 
-// A portion into a target of sixteen bytes FF; hands over the state after it.
-fn apply_edge(name: &[u8], s: State, source: &[u8]) -> State
-    ensures { result ≡ (applied s source.now (tabulate 16 (λ _. 255))).state }
+impl Edge {
+    fn print(&self, out: &mut Out, name: &str) -> fmt::Result {
+        let (size, position) = (self.state.size, self.state.position);
+        writeln!(
+            out,
+            "{size} {name}: {} {position} {}",
+            self.number,
+            Bytes(&self.bytes)
+        )
+    }
+}
+
+// A portion into a target of sixteen bytes FF.
+fn apply_edge(s: State, source: &[u8]) -> Edge
+    ensures { result.state ≡ (applied s source.now (tabulate 16 (λ _. 255))).state }
 {
-    let mut target = [255u8; 16];
-    let a = apply(s, source, &mut target);
-    answer(s.size, name, a);
-    end_with(&target);
-    a.state
+    let mut bytes = [255; 16];
+    let (number, state) = number_and_state(apply(s, source, &mut bytes));
+    Edge {
+        number,
+        state,
+        bytes,
+    }
 }
 
-fn move_edge(name: &[u8], s: State, distance: i64) {
-    let a = move_by(s, distance);
-    answer(s.size, name, a);
-    text(b"\n");
+fn window_edge(s: State) -> Edge {
+    let mut bytes = [0; 16];
+    let (number, state) = number_and_state(window(s, &mut bytes, usize::MAX, 1));
+    Edge {
+        number,
+        state,
+        bytes,
+    }
 }
 
-fn window_edge(s: State) {
-    let mut buffer = [0u8; 16];
-    let a = window(s, &mut buffer, usize::MAX, 1);
-    answer(s.size, b"window 18446744073709551615 1 at 5: ", a);
-    end_with(&buffer);
+// Moves from position 5.
+fn moves(out: &mut Out, s: State) -> fmt::Result {
+    for distance in [-5, -6, i64::MIN] {
+        let (number, t) = number_and_state(move_by(s, distance));
+        writeln!(
+            out,
+            "{} move {distance} at 5: {number} {}",
+            t.size, t.position
+        )?;
+    }
+    Ok(())
 }
 
 // Thirteen bytes at once, and as portions of 5, 0 and 8.
-fn portions(s: State) {
-    apply_edge(b"apply 13 at 3: ", s, &[0; 13]);
-    let t = apply_edge(b"apply 5 at 3: ", s, &[0; 5]);
-    let u = apply_edge(b"apply 0 at 8: ", t, &[0; 0]);
-    apply_edge(b"apply 8 at 8: ", u, &[0; 8]);
+fn portions(out: &mut Out, s: State) -> fmt::Result {
+    apply_edge(s, &[0; 13]).print(out, "apply 13 at 3")?;
+    let five = apply_edge(s, &[0; 5]);
+    five.print(out, "apply 5 at 3")?;
+    let none = apply_edge(five.state, &[]);
+    none.print(out, "apply 0 at 8")?;
+    apply_edge(none.state, &[0; 8]).print(out, "apply 8 at 8")
 }
 
-fn edges(key: &[u8], iv: &[u8]) {
+fn edges(out: &mut Out, key: &[u8], iv: &[u8]) -> fmt::Result {
     let near_end = opened_at(key, iv, 16777215);
-    apply_edge(b"apply 1 at 16777215: ", near_end, &[0; 1]);
-    apply_edge(b"apply 2 at 16777215: ", near_end, &[0; 2]);
+    apply_edge(near_end, &[0; 1]).print(out, "apply 1 at 16777215")?;
+    apply_edge(near_end, &[0; 2]).print(out, "apply 2 at 16777215")?;
     let s = opened_at(key, iv, 5);
-    move_edge(b"move -5 at 5: ", s, -5);
-    move_edge(b"move -6 at 5: ", s, -6);
-    move_edge(b"move -9223372036854775808 at 5: ", s, i64::MIN);
-    window_edge(s);
-    portions(opened_at(key, iv, 3));
+    moves(out, s)?;
+    window_edge(s).print(out, "window 18446744073709551615 1 at 5")?;
+    portions(out, opened_at(key, iv, 3))
+}
+
+fn print_all(out: &mut Out) -> fmt::Result {
+    let (key, iv) = (tables::key(), tables::iv());
+    key_lengths(out, &key, &iv)?;
+    edges(out, &key[..32], &iv)?;
+    edges(out, &key[..64], &iv)
 }
 
 fn main() {
-    key_lengths();
-    let key = tables::KEY;
-    let iv = tables::IV;
-    edges(&key[..32], &iv);
-    edges(&key[..64], &iv);
+    // A write that fails is passed over, as `Out` does.
+    let _ = print_all(&mut Out);
 }

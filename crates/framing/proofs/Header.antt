@@ -4,12 +4,13 @@ use mathlib.Core.Logic.{◌⊎◌, inl, inr}
 use mathlib.Core.Bool.{Bool, true, false}
 use mathlib.Core.List.{List, [], ◌∷◌, ◌++◌}
 use Prim.Native.Nat.{ℕ, ◌+◌, ◌-◌, ◌<◌, ◌≤◌, min}
-use native.Mathlib.Nat.{min-eq_left, min-eq_right}
+use native.Mathlib.Nat.{min-eq_left}
 use native.Mathlib.Omega.{arith}
 use borrow.Author.Tests.{lt-ltb, le-ltb, ltb-true, ltb-false}
 use lib.Dec.{ltb}
 use lib.ListN.{length, take, drop, length-append, length-take, length-drop, take-append-drop, get_or-append}
 use lib.Seq.{length-take-le, take_all, take-append-le, drop-append-le, get_or-take, get_or-drop, drop-drop, drop-cons}
+use Rattle.std.proofs.lemmas.List.{take_min}
 use Rattle.galois.specs.Words.{at}
 use Rattle.refusals.specs.Numbers.{accepted, refused_key_length, refused_iv_length, refused_zero_key}
 use Rattle.answers.specs.Tests.{key_length_test, iv_length_test}
@@ -19,7 +20,7 @@ use Rattle.refusals.specs.Lines.{NoneApplies}
 use Rattle.refusals.proofs.Lines.{Decides}
 use Rattle.answers.specs.Lines.{RefusesExactly}
 use Rattle.answers.proofs.Lines.{key_length_decides, iv_length_decides, refuses_exactly}
-use Rattle.framing.specs.Framing.{key_length_in, key_in, iv_in, data_in, lacking, started}
+use Rattle.framing.specs.Framing.{key_length_in, key_in, iv_in, data_in, started}
 use Rattle.framing.specs.FramingLaws.{header_lines}
 
 -- below or not
@@ -29,24 +30,6 @@ below_or_not a b = by (ltb a b) refl
     by : (t : Bool) → ltb a b ≡ t → (a < b) ⊎ (b ≤ a)
     by true e = inl (ltb-true a b e)
     by false e = inr (ltb-false a b e)
-
--- the first m of a list, counted to its end at most
-take_min : (m r : ℕ) (l : List ℕ) → (length l ≤ m → r ≡ length l) → (m ≤ length l → r ≡ m) → take r l ≡ take m l
-take_min m r l ends within = by (below_or_not (length l) m)
-  where
-    by : (length l < m) ⊎ (m ≤ length l) → take r l ≡ take m l
-    by (inl h) = take_all r l (omega (arith, ends (omega arith))) ∙ sym (take_all m l (omega arith))
-    by (inr h) = ap (λ (i : ℕ). take i l) (within h)
-
--- ---- what a header lacks
-
-pub lacks_first : (l : List ℕ) → length l ≡ 0 → 1 ≡ lacking l
-lacks_first [] e = refl
-lacks_first (x ∷ l) e = absurd (omega (arith, e))
-
-pub lacks_rest : {r : ℕ} (l : List ℕ) → (length l ≡ 0 → ⊥) → r ≡ 33 + key_length_in l - length l → r ≡ lacking l
-lacks_rest [] some e = absurd (some refl)
-lacks_rest (k ∷ rest) some e = omega (arith, e)
 
 module _ (input : List ℕ) where
   abbrev n : ℕ
@@ -68,25 +51,25 @@ module _ (input : List ℕ) where
 
   -- ---- what the code of `start` opens
 
-  pub cut_short : (key iv : List ℕ) → length key ≡ 0 → n < 1 + k → opened key iv ≡ started input
+  pub cut_short : n < 1 + k → opened [] [] ≡ started input
   unfolding started
-  cut_short [] iv e h = rw (key_short h) refl
-  cut_short (x ∷ key) iv e h = absurd (omega (arith, e))
+  cut_short h = rw (key_short h) refl
 
-  pub whole : {key_end iv_end : ℕ} → key_end ≡ 1 + k → key_end ≤ n → iv_end ≡ min n (key_end + 32)
-      → opened (take (key_end - 1) (drop 1 input)) (take (iv_end - key_end) (drop key_end input)) ≡ started input
+  -- the first byte says a key of k bytes, which are there
+  pub whole : {rest key after : List ℕ} {first j m : ℕ} → input ≡ first ∷ rest → j ≡ first → j ≤ length rest → key ≡ take j rest → after ≡ drop j rest
+      → m ≡ min 32 (length after) → opened key (take m after) ≡ started input
   unfolding started
-  whole {key_end} {iv_end} e h i =
-      let long = length-drop key_end input in
-      let count : key_end - 1 ≡ k = omega arith in
+  whole {rest} {key} {after} {first} {j} {m} e f fits ek ea em =
+      let is_k : j ≡ k = f ∙ sym (ap key_length_in e) in
+      let is_rest : rest ≡ drop 1 input = sym (ap (drop 1) e) in
+      let has : 1 + k ≤ n = omega (arith, ap length e, is_k, fits) in
       ap₂ opened
-      (ap (λ (j : ℕ). take j (drop 1 input)) count ∙ sym (key_whole (omega arith)))
-      (
-      take_min 32 (iv_end - key_end) (drop key_end input)
-      (λ short. let all = i ∙ min-eq_left (omega (arith, long, short)) in omega (arith, long, all))
-      (λ enough. let some = i ∙ min-eq_right (omega (arith, long, enough)) in omega (arith, some))
-      ∙ ap (λ (j : ℕ). take 32 (drop j input)) e
-      )
+      (ek ∙ ap₂ take is_k is_rest ∙ sym (key_whole has))
+      (ap (λ (i : ℕ). take i after) em ∙ take_min 32 after ∙ ap (take 32) (ea ∙ ap₂ drop is_k is_rest ∙ drop-drop k 1 input))
+
+  -- it says a key of more bytes than there are
+  pub cut : {rest : List ℕ} {first j : ℕ} → input ≡ first ∷ rest → j ≡ first → length rest < j → opened [] [] ≡ started input
+  cut {rest} {first} {j} e f h = cut_short (omega (arith, ap length e, ap key_length_in e, f, h))
 
   -- ---- each test computes whether its line applies
 

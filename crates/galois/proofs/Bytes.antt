@@ -8,6 +8,7 @@ use lib.Arith.{digits_div, digits_mod, digits_lt}
 use lib.ListN.{length, get_or}
 use lib.Pow.{pow_pos, pow_mono, pow-add, shr-shr, shr_lt, split}
 use lib.Bits.{bit_xor, xor_block, xor_shr, xor_mod}
+use Rattle.std.specs.Int.{w64, to_le_bytes, from_le_bytes}
 use Rattle.galois.specs.Words.{byte, word, tabulate, at}
 use Rattle.galois.proofs.Linear.{Linear}
 
@@ -23,6 +24,12 @@ tabulate_length (suc n) f = ap suc (tabulate_length n (λ i. f (suc i)))
 pub tabulate_all : (l : List ℕ) → l ≡ tabulate (length l) (at l)
 tabulate_all [] = refl
 tabulate_all (x ∷ l) = ap (λ (t : List ℕ). x ∷ t) (tabulate_all l)
+
+-- a function that is 0 from n on, in a table of n entries
+pub at_tabulate : (n : ℕ) (f : ℕ → ℕ) → ((i : ℕ) → n ≤ i → f i ≡ 0) → (i : ℕ) → at (tabulate n f) i ≡ f i
+at_tabulate zero f past i = sym (past i (omega arith))
+at_tabulate (suc n) f past zero = refl
+at_tabulate (suc n) f past (suc i) = at_tabulate n (λ i. f (suc i)) (λ i h. past (suc i) (omega arith)) i
 
 -- ---- a byte of a word
 
@@ -81,3 +88,18 @@ word_xor (suc n) f g hf hg =
 
 pub word_linear : (n : ℕ) (f : ℕ → ℕ → ℕ) → ((i : ℕ) → Linear (f i)) → ((i a : ℕ) → f i a < 256) → Linear (λ a. word n (λ i. f i a))
 word_linear n f h l a b = ap (word n) (fun_ext (λ i. h i a b)) ∙ word_xor n (λ i. f i a) (λ i. f i b) (λ i. l i a) (λ i. l i b)
+
+-- ---- the library's bytes of a word
+
+pub le_bytes_of : (w : ℕ) → to_le_bytes w64 w ≡ tabulate 8 (byte w)
+le_bytes_of w = ap (λ (x : ℕ). x % 256 ∷ tabulate 7 (λ i. byte w (suc i))) (sym (div-one w))
+
+pub at_le_bytes : (w j : ℕ) → w < 2 ^ 64 → at (to_le_bytes w64 w) j ≡ byte w j
+at_le_bytes w j h = ap (λ (l : List ℕ). at l j) (le_bytes_of w) ∙ at_tabulate 8 (byte w) (λ i l. byte_past 8 w i h l) j
+
+pub of_le_bytes : (l : List ℕ) → from_le_bytes w64 l ≡ word 8 (at l)
+of_le_bytes l = omega arith
+
+-- eight bytes known one by one
+pub from_le_bytes_each : (l : List ℕ) (f : ℕ → ℕ) → ((k : ℕ) → k < 8 → at l k ≡ f k) → from_le_bytes w64 l ≡ word 8 f
+from_le_bytes_each l f h = of_le_bytes l ∙ word_ext 8 (at l) f h

@@ -5,10 +5,9 @@ use native.Mathlib.Nat.{mod-lt, zero-lt-suc, not-suc-le-zero, zero-mul, one-mul}
 use native.Mathlib.Numerals.{sub-one}
 use native.Mathlib.Omega.{arith}
 use lib.Dec.{ltb, ltb→lt}
-use lib.Bits.{bit_xor, xor_shr, xor_mod, xor_self, xor_lt, xor_zero_r}
+use lib.Bits.{bit_xor, xor_shr, xor_mod, xor_self, xor_lt, xor_zero_r, xor_assoc}
 use Rattle.galois.specs.Field.{xtime, gmul_bits, gmul}
 use Rattle.galois.proofs.Computed.{below}
-use Rattle.galois.proofs.Xor.{xor_assoc}
 use Rattle.galois.proofs.Linear.{Linear, xor_linear, after_linear}
 
 -- ---- a bit times a

@@ -8,23 +8,22 @@ ghost use Rattle.galois.specs.Alpha.{alpha_table, alpha_inverse_table, alpha_tim
 
 mod tables;
 
+pub use tables::{ALPHA, ALPHA_INVERSE};
+
 // ---- bytes and words
 
 // Byte j of a word; byte 0 is the least significant. A word has no byte past 7: there it is 0.
 pub fn byte_of(w: u64, j: u64) -> u8
     ensures { result ≡ byte w j }
 {
-    if 8 <= j {
-        return 0;
-    }
-    ((w >> (8 * j)) % 256) as u8
+    w.to_le_bytes().get(j as usize).copied().unwrap_or(0)
 }
 
 // The bytes of w each moved up one place, the top one lost, and x as byte 0.
 pub fn append_byte(w: u64, x: u8) -> u64
     ensures { (result ≡ w * 2 ^ 8 % 2 ^ 64 + x) × (byte result 0 ≡ x) }
 {
-    (w << 8) + (x as u64)
+    (w << 8) + u64::from(x)
 }
 
 // ---- the byte field
@@ -33,7 +32,7 @@ pub fn append_byte(w: u64, x: u8) -> u64
 fn beta_times(a: u8) -> u8
     ensures { result ≡ xtime a }
 {
-    let x = a as u64;
+    let x = u64::from(a);
     (((x / 128 * 0x11D) ^ (x * 2)) % 256) as u8
 }
 
@@ -41,33 +40,33 @@ fn beta_times(a: u8) -> u8
 pub fn product(a: u8, b: u8) -> u8
     ensures { result ≡ gmul a b }
 {
-    let mut sum: u8 = 0;
+    let mut sum = 0;
     let mut x = a;
     let mut bits = b;
-    let mut n: u8 = 8;
-    while 0 < n {
-        sum = sum ^ (bits % 2 * x);
+    for _ in 0..8u8 {
+        sum ^= bits % 2 * x;
         x = beta_times(x);
-        bits = bits / 2;
-        n -= 1;
+        bits /= 2;
     }
     sum
 }
 
 // ---- α
 
-// The table of α, by value: hold it in a local and lend it.
-pub fn alpha_table() -> [u64; 256]
-    ensures { result ≡ alpha_table }
+// Each table has a function of its own, since the contract of each is all that it has to say: which rule's table the constant is.
+
+// The table of α.
+pub fn alpha_table() -> &'static [u64; 256]
+    ensures { result.now ≡ alpha_table }
 {
-    tables::ALPHA
+    &ALPHA
 }
 
-// The table of α inverse, by value: hold it in a local and lend it.
-pub fn alpha_inverse_table() -> [u64; 256]
-    ensures { result ≡ alpha_inverse_table }
+// The table of α inverse.
+pub fn alpha_inverse_table() -> &'static [u64; 256]
+    ensures { result.now ≡ alpha_inverse_table }
 {
-    tables::ALPHA_INVERSE
+    &ALPHA_INVERSE
 }
 
 // α times w, by the table that is lent.
@@ -77,7 +76,8 @@ pub fn alpha_times_by_table(w: u64, table: &[u64; 256]) -> u64
     (w << 8) ^ table[((w >> 56) % 256) as usize]
 }
 
-// α inverse times w, by the table that is lent.
+// α inverse times w, by the table that is lent. Not one function with the above: the other direction of the shift and the other end of the word would be
+// parameters, and its body a choice between these two.
 pub fn alpha_inverse_times_by_table(w: u64, table: &[u64; 256]) -> u64
     ensures { result ≡ alpha_inverse_times_with (at table.now) w }
 {

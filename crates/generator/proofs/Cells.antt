@@ -21,9 +21,6 @@ module _ (l : List ℕ) (x : ℕ) (h : length l ≡ 16) where
   pub shift_in_is : one_by_one l 1 15 ++ (x ∷ []) ≡ drop 1 l ++ (x ∷ [])
   shift_in_is = ap (λ (t : List ℕ). t ++ (x ∷ [])) (one_by_one_is l 1 15 (omega arith) ∙ take_all 15 (drop 1 l) (omega (arith, drop_length)))
 
-  pub shift_out_is : x ∷ one_by_one l 0 15 ≡ x ∷ take 15 l
-  shift_out_is = ap (λ (t : List ℕ). x ∷ t) (one_by_one_is l 0 15 (omega arith))
-
   -- the cells after a shift
   pub shift_in_last : at (drop 1 l ++ (x ∷ [])) 15 ≡ x
   shift_in_last = get_or_at (drop 1 l) x [] 0 15 drop_length

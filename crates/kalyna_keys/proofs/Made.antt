@@ -1,19 +1,19 @@
 -- The fifteen round keys, over variables: the proof of `round_keys` applies it.
 use mathlib.Core.Path.{◌≡◌, refl}
-use mathlib.Core.List.{List, [], ◌∷◌}
-use Prim.Native.Nat.{ℕ}
+use mathlib.Core.List.{List, []}
+use Prim.Native.Nat.{ℕ, ◌*◌, ◌/◌, ◌%◌, ◌^◌, ◌<◌, ◌≤◌}
+use native.Mathlib.Omega.{arith}
+use Rattle.std.proofs.Math.Nat.{mod-eq_of_lt}
+use Rattle.std.proofs.Math.Pow.{pow_mono}
+use lib.ListN.{get_or}
 use Rattle.galois.specs.Words.{tabulate}
-use Rattle.kalyna_cipher.specs.Rounds.{added}
-use Rattle.kalyna_cipher.specs.RoundKeys.{intermediate_key_with, constants, rotated_words, key_from, even_key_with, rotated_bytes, round_key_with}
+use Rattle.kalyna_cipher.specs.RoundKeys.{intermediate_key_with, even_key_with, even_or_odd, round_key_with}
 
 module _ (R : List ℕ → List ℕ) (key m : List ℕ) where
-  -- an even round key from the intermediate key m
-  abbrev pub even : ℕ → List ℕ
-  even i = key_from R (rotated_words i key) (added (constants i) m)
+  pub all_keys : {evens keys : List (List ℕ)} → m ≡ intermediate_key_with R key → evens ≡ tabulate 8 (even_key_with R key m)
+      → keys ≡ tabulate 15 (λ n. even_or_odd (n % 2) (get_or evens (n / 2) [])) → keys ≡ tabulate 15 (round_key_with R key)
+  all_keys em ee ek = rw (ek, ee, em) refl
 
-  pub all_keys : {a a' b b' c c' d d' e e' f f' g g' h : List ℕ} → m ≡ intermediate_key_with R key
-      → a ≡ even 0 → b ≡ even 1 → c ≡ even 2 → d ≡ even 3 → e ≡ even 4 → f ≡ even 5 → g ≡ even 6 → h ≡ even 7
-      → a' ≡ rotated_bytes a → b' ≡ rotated_bytes b → c' ≡ rotated_bytes c → d' ≡ rotated_bytes d → e' ≡ rotated_bytes e → f' ≡ rotated_bytes f → g' ≡ rotated_bytes g
-      → a ∷ a' ∷ b ∷ b' ∷ c ∷ c' ∷ d ∷ d' ∷ e ∷ e' ∷ f ∷ f' ∷ g ∷ g' ∷ h ∷ [] ≡ tabulate 15 (round_key_with R key)
-  unfolding even_key_with
-  all_keys em ea eb ec ed ee ef eg eh ea' eb' ec' ed' ee' ef' eg' = rw (ea', eb', ec', ed', ee', ef', eg', ea, eb, ec, ed, ee, ef, eg, eh, em) refl
+-- the constant of each of the eight is a word
+pub constant_fits : (i : ℕ) → i < 8 → 0x0001000100010001 * 2 ^ i % 2 ^ 64 ≡ 0x0001000100010001 * 2 ^ i
+constant_fits i h = let p : 2 ^ i ≤ 2 ^ 7 = pow_mono {j = 7} (omega (arith, h)) in mod-eq_of_lt (omega (arith, p))

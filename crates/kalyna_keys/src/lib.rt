@@ -1,14 +1,15 @@
 // The block cipher of DSTU 7624:2014: the fifteen round keys of a key of four words. The tables of a round are lent.
 #![tactic(auto)]
 
-ghost use Rattle.std.specs.Prelude.{◌≡◌, [], ◌∷◌};
+ghost use Rattle.std.specs.Prelude.{◌≡◌, ◌/◌, ◌%◌, ◌<◌, [], ◌∷◌, get_or};
 ghost use Rattle.galois.specs.Words.{tabulate};
 ghost use Rattle.words.specs.Memory.{bytes_from};
 ghost use Rattle.kalyna_cipher.specs.Rounds.{added};
-ghost use Rattle.kalyna_cipher.specs.RoundKeys.{intermediate_key_with, key_from, rotated_bytes, round_key_with};
+ghost use Rattle.kalyna_cipher.specs.RoundKeys.{intermediate_key_with, rotated_words, key_from, even_key_with, rotated_bytes, even_or_odd, round_key_with};
 ghost use Rattle.kalyna_rounds.specs.RoundsByTables.{round_by};
 
 use kalyna_rounds::{add, round_by_tables, xor};
+use std::array::from_fn;
 
 // The intermediate key. 9 is the sum of the bits of block, key and one word, in words.
 fn intermediate_key(key: [u64; 4], tables: &[[u64; 256]; 4]) -> [u64; 4]
@@ -34,14 +35,14 @@ fn even_key(
     add(b, t)
 }
 
-// The bytes of a word from byte 3 on, then the first three of the next word.
+// The bytes of a word from byte 3 on, then the first three of the next word: by hand, since std has no word from the middle of two.
 fn join(low: u64, high: u64) -> u64
     ensures { result ≡ bytes_from 3 low high }
 {
     high % 0x1000000 * 0x10000000000 + (low >> 24)
 }
 
-// The 32 bytes rotated by 11 places towards the front: by a word and three bytes.
+// The 32 bytes rotated by 11 places towards the front: by a word and three bytes. Words are joined here, since as bytes they would be stored and loaded.
 fn rotate_bytes(k: [u64; 4]) -> [u64; 4]
     ensures { result ≡ rotated_bytes k }
 {
@@ -53,38 +54,53 @@ fn rotate_bytes(k: [u64; 4]) -> [u64; 4]
     ]
 }
 
+// The words rotated by i places.
+fn rotate_words(key: [u64; 4], i: usize) -> [u64; 4]
+    requires { i < 8 }
+    ensures { result ≡ rotated_words i key }
+{
+    from_fn(|j| key[(j + i) % 4])
+}
+
+// Round key k_(2i), from the key and the intermediate key.
+fn even_key_at(
+    i: usize,
+    key: [u64; 4],
+    intermediate: [u64; 4],
+    tables: &[[u64; 256]; 4],
+) -> [u64; 4]
+    requires { i < 8 }
+    ensures { result ≡ even_key_with (round_by tables.now) key intermediate i }
+{
+    let constant = 0x0001000100010001 << i;
+    let d = rotate_words(key, i);
+    even_key(d, constant, intermediate, tables)
+}
+
+// Round key k_n, from the even ones.
+fn key_at(n: usize, even: &[[u64; 4]; 8]) -> [u64; 4]
+    requires { n < 16 }
+    ensures { result ≡ even_or_odd (n % 2) (get_or even.now (n / 2) []) }
+{
+    let k = even[n / 2];
+    if n % 2 == 0 { k } else { rotate_bytes(k) }
+}
+
 // The round keys k_0 to k_14.
 pub fn round_keys(key: [u64; 4], tables: &[[u64; 256]; 4]) -> [[u64; 4]; 15]
     ensures { result ≡ tabulate 15 (round_key_with (round_by tables.now) key) }
 {
     let kt = intermediate_key(key, tables);
-    let key0 = [key[0], key[1], key[2], key[3]];
-    let key1 = [key[1], key[2], key[3], key[0]];
-    let key2 = [key[2], key[3], key[0], key[1]];
-    let key3 = [key[3], key[0], key[1], key[2]];
-    let k0 = even_key(key0, 0x0001000100010001, kt, tables);
-    let k2 = even_key(key1, 0x0002000200020002, kt, tables);
-    let k4 = even_key(key2, 0x0004000400040004, kt, tables);
-    let k6 = even_key(key3, 0x0008000800080008, kt, tables);
-    let k8 = even_key(key0, 0x0010001000100010, kt, tables);
-    let k10 = even_key(key1, 0x0020002000200020, kt, tables);
-    let k12 = even_key(key2, 0x0040004000400040, kt, tables);
-    let k14 = even_key(key3, 0x0080008000800080, kt, tables);
-    [
-        k0,
-        rotate_bytes(k0),
-        k2,
-        rotate_bytes(k2),
-        k4,
-        rotate_bytes(k4),
-        k6,
-        rotate_bytes(k6),
-        k8,
-        rotate_bytes(k8),
-        k10,
-        rotate_bytes(k10),
-        k12,
-        rotate_bytes(k12),
-        k14,
-    ]
+    let even = from_fn(
+        |i: usize| -> [u64; 4]
+            requires { i < 8 }
+            ensures { result ≡ even_key_with (round_by tables.entry.now) key kt i }
+        { even_key_at(i, key, kt, tables) },
+    );
+    from_fn(
+        |n: usize| -> [u64; 4]
+            requires { n < 16 }
+            ensures { result ≡ even_or_odd (n % 2) (get_or even (n / 2) []) }
+        { key_at(n, &even) },
+    )
 }

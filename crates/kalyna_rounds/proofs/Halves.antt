@@ -1,9 +1,8 @@
 -- Four tables for eight: the second four of the eight are the first four with the halves of each entry exchanged, so two sums of four entries are
 -- enough; and the bytes of a word in two halves. The bytes looked up may stand in several words.
 use Rattle.std.proofs.Common.{◌≡◌, ℕ, zero, suc, ◌+◌, ◌*◌, ◌/◌, ◌%◌, ◌^◌, ◌<◌, List, [], ◌∷◌, get_or, take, sym, ap, ◌∙◌, ap₂, add-zero, add-suc, arith, get_or-take}
-use lib.Bits.{bit_xor, xor_zero_r}
+use lib.Bits.{bit_xor, xor_zero_r, xor_assoc}
 use Rattle.galois.specs.Words.{byte, at}
-use Rattle.galois.proofs.Xor.{xor_assoc}
 use Rattle.galois.proofs.Linear.{Linear, zero_fixed}
 use Rattle.galois.proofs.Bytes.{byte_lt, byte_xor, word_ext, word_linear}
 use Rattle.words.proofs.Memory.{byte_shr, word_append}

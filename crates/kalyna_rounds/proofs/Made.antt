@@ -1,26 +1,25 @@
--- What the functions make, over variables: the proofs of the functions apply these.
-use Rattle.std.proofs.Common.{◌≡◌, ℕ, List, [], ◌∷◌, get_or, take, refl, ap, ◌∙◌}
-use Rattle.galois.specs.Words.{tabulate, at}
-use Rattle.substitution.specs.Substitution.{column_tables}
-use Rattle.kalyna_rounds.specs.RoundsByTables.{gathered, sent_on, from, round_inverse_by}
+-- An array that a closure makes, over variables: the proofs of the functions that make one apply it.
+use Rattle.std.proofs.Common.{◌≡◌, ℕ, zero, suc, ◌+◌, ◌<◌, List, get_or, refl, sym, ap, subst, ◌∙◌, add-zero, zero-add, arith}
+use Rattle.std.proofs.lemmas.List.{ext_get_or}
+use Rattle.std.specs.Fn.{Mut, Called}
+use Rattle.std.specs.Array.{IsFromFnResultFrom, IsFromFnResult}
+use Rattle.galois.specs.Words.{tabulate}
+use Rattle.galois.proofs.Bytes.{tabulate_at, tabulate_length}
 
--- four words, one by one
-pub four_same : {a b c d a' b' c' d' : ℕ} → a ≡ a' → b ≡ b' → c ≡ c' → d ≡ d' → a ∷ b ∷ c ∷ d ∷ [] ≡ a' ∷ b' ∷ c' ∷ d' ∷ []
-four_same ea eb ec ed = rw (ea, eb, ec, ed) refl
+-- an array that calls of a closure make, place by place, where the closure keeps what it holds
+module _ {F B : Type 0} (d : B) (g : Mut F (ℕ × Unit {0}) B) (m : ℕ) (h : ℕ → B) (f : F) (call : (i : ℕ) (y : B) (q : F) → i < m → Called g f (i, tt) y q → (y ≡ h i) × (q ≡ f)) where
+  element : (ys : List B) (n i : ℕ) (p : F) → i + n ≡ m → p ≡ f → IsFromFnResultFrom g p ys i n → (k : ℕ) → k < n → get_or ys (i + k) d ≡ h (i + k)
+  element ys zero i p e same made k l = let no : ⊥ = omega (arith, l) in absurd no
+  element ys (suc n) i p e same (q, y, is, called, rest) zero l =
+      let c = call i y q (omega (arith, e)) (subst (λ p. Called g p (i, tt) y q) same called) in
+      ap (λ j. get_or ys j d) (add-zero i) ∙ is.1 d ∙ c.0 ∙ ap h (sym (add-zero i))
+  element ys (suc n) i p e same (q, y, is, called, rest) (suc k) l =
+      let c = call i y q (omega (arith, e)) (subst (λ p. Called g p (i, tt) y q) same called) in
+      let next : i + 1 + k ≡ i + suc k = omega arith in
+      subst (λ j. get_or ys j d ≡ h j) next (element ys n (i + 1) q (omega (arith, e)) (c.1) rest k (omega (arith, l)))
 
--- four tables of eight, one by one
-module _ (row : List ℕ) (f : ℕ → ℕ → ℕ) where
-  pub first_four : {t : List (List ℕ)} → t ≡ column_tables row f → get_or t 0 [] ∷ get_or t 1 [] ∷ get_or t 2 [] ∷ get_or t 3 [] ∷ [] ≡ take 4 (column_tables row f)
-  unfolding column_tables
-  first_four e = rw e refl
-
--- a round back from the four products
-module _ (columns bytes : List (List ℕ)) (s : List ℕ) where
-  abbrev product : ℕ → ℕ
-  product c = gathered columns (at s c ∷ at s c ∷ at s c ∷ at s c ∷ [])
-
-  pub back_round : {w x y z a b c d : ℕ} → w ≡ product 0 → x ≡ product 1 → y ≡ product 2 → z ≡ product 3
-      → a ≡ sent_on bytes (w ∷ x ∷ y ∷ z ∷ []) → b ≡ sent_on bytes (x ∷ y ∷ z ∷ w ∷ []) → c ≡ sent_on bytes (y ∷ z ∷ w ∷ x ∷ []) → d ≡ sent_on bytes (z ∷ w ∷ x ∷ y ∷ [])
-      → a ∷ b ∷ c ∷ d ∷ [] ≡ round_inverse_by columns bytes s
-  unfolding round_inverse_by
-  back_round ew ex ey ez ea eb ec ed = four_same ea eb ec ed ∙ ap (λ (l : List ℕ). tabulate 4 (λ c. sent_on bytes (from 1 l c))) (four_same ew ex ey ez)
+  pub made_by : {ys : List B} → IsFromFnResult g f ys m → ys ≡ tabulate m h
+  made_by {ys} made =
+      ext_get_or d ys (tabulate m h) (made.long ∙ sym (tabulate_length m h))
+      (λ i l. let below : i < m = subst (λ n. i < n) made.long l in
+      subst (λ j. get_or ys j d ≡ h j) (zero-add i) (element ys m 0 f (omega arith) refl made.each i below) ∙ sym (tabulate_at d m h i below))

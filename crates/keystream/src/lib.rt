@@ -1,4 +1,5 @@
-// The keystream over a buffer, in place, from any byte of a state's word on. Tables are lent.
+// The keystream over a buffer, in place, from any byte of a state's word on. Tables are lent, beside a state that is
+// passed by value: whoever holds tables, as a caller in C may, lends them to any number of states.
 #![tactic(auto)]
 
 ghost use Rattle.std.specs.Prelude.{◌+◌, ◌%◌, ◌<◌, ◌≤◌, length};
@@ -15,7 +16,7 @@ fn apply_edge(s: State, p: u64, tables: &[[u64; 256]; 10], buffer: &mut [u8]) ->
     requires { (p < 8) × (p + length buffer.old ≤ 8) }
     ensures { KeystreamOver (next_in tables.now Ordinary) p s buffer.old result buffer.new }
 {
-    if buffer.len() == 0 {
+    if buffer.is_empty() {
         return s;
     }
     let n = buffer.len() as u64;

@@ -1,8 +1,9 @@
 -- A buffer worked over in parts, one after the other, and bytes within one word.
 use mathlib.Core.Path.{◌≡◌, refl, ap, ◌∙◌}
 use mathlib.Core.List.{List}
-use Prim.Native.Nat.{ℕ, ◌+◌, ◌-◌, ◌/◌, ◌%◌, ◌<◌, ◌≤◌}
+use Prim.Native.Nat.{ℕ, ◌+◌, ◌-◌, ◌*◌, ◌/◌, ◌%◌, ◌<◌, ◌≤◌}
 use native.Mathlib.Omega.{arith}
+use Rattle.std.proofs.Math.Nat.{add-mul, one-mul, mul-le-mul_right, div-mul-le_self, dvd-mul_left_of_dvd, dvd_of_mod-eq-zero, mod-eq-zero_of_dvd}
 use borrow.Rule.Slice.PartMut.{put_mid}
 use lib.ListN.{length, take, drop, length-take, length-drop}
 use Rattle.generator.specs.declared.State.{State}
@@ -22,9 +23,9 @@ module _ {f : Registers → Registers} {p : ℕ} {s : State} {b : List ℕ} wher
     pub done_length : length buffer ≡ length b
     done_length = ap length d.bytes ∙ partly_length (stream_byte f (registers_of s)) p b i d.within
 
-    pub all_done : length buffer ≤ i → KeystreamOver f p s b t buffer
+    pub all_done : length b ≤ i → KeystreamOver f p s b t buffer
     all_done h =
-        let e : i ≡ length b = omega (arith, d.within, done_length) in
+        let e : i ≡ length b = omega (arith, d.within) in
         record { state = d.state ∙ ap (λ (n : ℕ). walked f ((p + n) / 8) s) e; bytes = d.bytes ∙ partly_all (stream_byte f (registers_of s)) p b i e }
 
     -- the part from i up to e
@@ -47,6 +48,16 @@ module _ {f : Registers → Registers} {p : ℕ} {s : State} {b : List ℕ} wher
             state = walked_on f s ((p + i) / 8) ((q + (e - i)) / 8) ((p + e) / 8) d.state (rw as_long at a.state) steps;
             bytes = rw d.bytes (partly_put g p b i d.within (e - i) (omega arith) ey ∙ ap (partly g p b) sum);
           }
+
+-- lines of m bytes: k of them are done, and one more
+module _ {f : Registers → Registers} {s t u : State} {b buffer ys : List ℕ} (m k : ℕ) where
+  pub line_done : m % 8 ≡ 0 → k < length b / m → KeystreamUpTo (k * m) f 0 s b t buffer → KeystreamOver f 0 t (take (k * m + m - k * m) (drop (k * m) buffer)) u ys → KeystreamUpTo ((k + 1) * m) f 0 s b u (put_mid (k * m) (k * m + m - k * m) buffer ys)
+  line_done whole h d a =
+      let more : (k + 1) * m ≡ k * m + m = add-mul k 1 m ∙ ap (λ (n : ℕ). k * m + n) (one-mul m) in
+      let all : (k + 1) * m ≤ length b / m * m = mul-le-mul_right m (omega (arith, h)) in
+      let room : k * m + m ≤ length b = omega (arith, more, all, div-mul-le_self (length b) m) in
+      let aligned : k * m % 8 ≡ 0 = mod-eq-zero_of_dvd 8 (dvd-mul_left_of_dvd 8 (dvd_of_mod-eq-zero 8 whole) k) in
+      rw more (part_done d (k * m + m) (omega arith) room (omega (arith, aligned)) a)
 
 pub over_length : {f : Registers → Registers} {p : ℕ} {s t : State} {xs ys : List ℕ} → KeystreamOver f p s xs t ys → length ys ≡ length xs
 over_length {f} {p} {s} {xs = xs} a = ap length a.bytes ∙ masked_length (stream_byte f (registers_of s)) p xs

@@ -1,6 +1,6 @@
 -- Document 01, "Positions, windows, moves": the bytes of the keystream, and what the functions over lent tables promise of bytes that it is applied
 -- to, with the step that the tables give as a parameter.
-use Rattle.std.specs.Prelude.{◌≡◌, List, ◌++◌, ℕ, ◌+◌, ◌/◌, ◌<◌, ◌≤◌, length, take, drop}
+use Rattle.std.specs.Prelude.{◌≡◌, List, ◌++◌, ℕ, ◌+◌, ◌/◌, ◌≤◌, length, take, drop}
 use Rattle.generator.specs.declared.State.{State}
 use Rattle.generator.specs.Registers.{Registers, registers_of, keystream_word, iterate, walked}
 use Rattle.masking.specs.Masking.{byte_at, masked}
@@ -19,10 +19,3 @@ pub record KeystreamUpTo (n : ℕ) (f : Registers → Registers) (p : ℕ) (s : 
   pub within : n ≤ length xs
   pub state : t ≡ walked f ((p + n) / 8) s
   pub bytes : ys ≡ masked (stream_byte f (registers_of s)) p (take n xs) ++ drop n xs
-
--- one word: where the eight bytes from place i on are there, the keystream word of s over them and the state a step on; else nothing is done
-pub record WordAt (f : Registers → Registers) (i : ℕ) (s : State) (xs : List ℕ) (t : State) (ys : List ℕ) : Type 0 where
-  pub there :
-      i + 8 ≤ length xs
-      → (t ≡ walked f 1 s) × (ys ≡ take i xs ++ (masked (stream_byte f (registers_of s)) 0 (take 8 (drop i xs)) ++ drop 8 (drop i xs)))
-  pub not_there : length xs < i + 8 → (t ≡ s) × (ys ≡ xs)

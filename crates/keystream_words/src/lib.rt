@@ -1,112 +1,99 @@
 // The keystream over the whole words of a buffer, in place, from the start of a word on. Tables are lent.
 #![tactic(auto)]
 
-ghost use Rattle.std.specs.Prelude.{◌≡◌, ◌*◌, ◌/◌, ◌%◌, ◌<◌, length};
+ghost use Rattle.std.proofs.Common.{lit<};
+ghost use Rattle.std.specs.Prelude.{refl, ℕ, ◌≡◌, ◌*◌, ◌/◌, ◌%◌, ◌<◌, length};
 ghost use Rattle.generator.specs.declared.Kind.TheVariants.{Ordinary};
 ghost use Rattle.generator.specs.Functions.{next_in};
-ghost use Rattle.keystream_words.specs.Keystream.{KeystreamOver, KeystreamUpTo, WordAt};
+ghost use Rattle.keystream_words.specs.Keystream.{KeystreamOver, KeystreamUpTo};
 
 use generator::{Kind, State, step};
 use masking::mask_word;
 
 // ---- words in a straight line
 
-// One word, over the eight bytes from i on; nothing is done where there are fewer, a test that the compiler drops where it knows the length.
-fn apply_word(s: State, tables: &[[u64; 256]; 10], buffer: &mut [u8], i: usize) -> State
-    ensures { WordAt (next_in tables.now Ordinary) i s buffer.old result buffer.new }
-{
-    let n = buffer.len();
-    if n < i {
-        return s;
-    }
-    if n - i < 8 {
-        return s;
-    }
-    let e = i + 8;
-    let stepped = step(Kind::Ordinary, s, tables);
-    mask_word(stepped.word, &mut buffer[i..e]);
-    stepped.state
+// A line of words, taken one after the other.
+trait Line {
+    const BYTES: usize;
+
+    ghost BYTES: { ℕ };
+
+    fn apply(s: State, tables: &[[u64; 256]; 10], part: &mut [u8]) -> State
+        requires { length part.old ≡ BYTES }
+        ensures { KeystreamOver (next_in tables.now Ordinary) 0 s part.old result part.new };
+
+    // Whole words, one at least.
+    ghost whole: { (BYTES % 8 ≡ 0) × (0 < BYTES) };
 }
 
-// The two lines are called in one place each, so that the compiler makes one straight line of steps of each.
+struct Word;
 
-// Eight words.
-fn apply_eight(s: State, tables: &[[u64; 256]; 10], part: &mut [u8]) -> State
-    requires { length part.old ≡ 64 }
-    ensures { KeystreamOver (next_in tables.now Ordinary) 0 s part.old result part.new }
-{
-    let a = apply_word(s, tables, part, 0);
-    let b = apply_word(a, tables, part, 8);
-    let c = apply_word(b, tables, part, 16);
-    let d = apply_word(c, tables, part, 24);
-    let e = apply_word(d, tables, part, 32);
-    let f = apply_word(e, tables, part, 40);
-    let g = apply_word(f, tables, part, 48);
-    apply_word(g, tables, part, 56)
+impl Line for Word {
+    const BYTES: usize = 8;
+
+    ghost BYTES = { 8 };
+
+    ghost whole = { (refl, lit< tt) };
+
+    #[inline(always)]
+    fn apply(s: State, tables: &[[u64; 256]; 10], part: &mut [u8]) -> State {
+        let stepped = step(Kind::Ordinary, s, tables);
+        mask_word(stepped.word, part);
+        stepped.state
+    }
 }
 
-// Sixteen words, which a long portion goes by.
-fn apply_sixteen(s: State, tables: &[[u64; 256]; 10], part: &mut [u8]) -> State
-    requires { length part.old ≡ 128 }
-    ensures { KeystreamOver (next_in tables.now Ordinary) 0 s part.old result part.new }
-{
-    let a = apply_word(s, tables, part, 0);
-    let b = apply_word(a, tables, part, 8);
-    let c = apply_word(b, tables, part, 16);
-    let d = apply_word(c, tables, part, 24);
-    let e = apply_word(d, tables, part, 32);
-    let f = apply_word(e, tables, part, 40);
-    let g = apply_word(f, tables, part, 48);
-    let h = apply_word(g, tables, part, 56);
-    let i = apply_word(h, tables, part, 64);
-    let j = apply_word(i, tables, part, 72);
-    let k = apply_word(j, tables, part, 80);
-    let l = apply_word(k, tables, part, 88);
-    let m = apply_word(l, tables, part, 96);
-    let n = apply_word(m, tables, part, 104);
-    let o = apply_word(n, tables, part, 112);
-    apply_word(o, tables, part, 120)
+struct Eight;
+
+impl Line for Eight {
+    const BYTES: usize = 64;
+
+    ghost BYTES = { 64 };
+
+    ghost whole = { (refl, lit< tt) };
+
+    // Unrolled by hand, since the compiler makes no straight line of a loop of eight steps.
+    #[inline(always)]
+    fn apply(s: State, tables: &[[u64; 256]; 10], part: &mut [u8]) -> State {
+        let a = Word::apply(s, tables, &mut part[0..8]);
+        let b = Word::apply(a, tables, &mut part[8..16]);
+        let c = Word::apply(b, tables, &mut part[16..24]);
+        let d = Word::apply(c, tables, &mut part[24..32]);
+        let e = Word::apply(d, tables, &mut part[32..40]);
+        let f = Word::apply(e, tables, &mut part[40..48]);
+        let g = Word::apply(f, tables, &mut part[48..56]);
+        Word::apply(g, tables, &mut part[56..64])
+    }
+}
+
+// The line that a long portion goes by.
+struct Sixteen;
+
+impl Line for Sixteen {
+    const BYTES: usize = 128;
+
+    ghost BYTES = { 128 };
+
+    ghost whole = { (refl, lit< tt) };
+
+    fn apply(s: State, tables: &[[u64; 256]; 10], part: &mut [u8]) -> State {
+        let t = Eight::apply(s, tables, &mut part[0..64]);
+        Eight::apply(t, tables, &mut part[64..128])
+    }
 }
 
 // ---- whole portions
 
-// Whole blocks of sixteen words.
-fn apply_blocks(s: State, tables: &[[u64; 256]; 10], buffer: &mut [u8]) -> State
-    requires { length buffer.old % 128 ≡ 0 }
+// Whole lines, by their places: once the parts that `chunks_exact_mut` lends have ended, a proof knows nothing of their bytes.
+fn apply_lines<L: Line>(s: State, tables: &[[u64; 256]; 10], buffer: &mut [u8]) -> State
+    requires { length buffer.old % L.BYTES ≡ 0 }
     ensures { KeystreamOver (next_in tables.now Ordinary) 0 s buffer.old result buffer.new }
 {
+    let bytes = L::BYTES;
     let mut t = s;
-    let mut i = 0;
-    while i < buffer.len() {
-        let e = i + 128;
-        t = apply_sixteen(t, tables, &mut buffer[i..e]);
-        i = e;
-    }
-    t
-}
-
-// Eight words, or none.
-fn apply_half_block(s: State, tables: &[[u64; 256]; 10], part: &mut [u8]) -> State
-    requires { (length part.old % 64 ≡ 0) × (length part.old < 128) }
-    ensures { KeystreamOver (next_in tables.now Ordinary) 0 s part.old result part.new }
-{
-    if part.len() == 0 {
-        s
-    } else {
-        apply_eight(s, tables, part)
-    }
-}
-
-// Words, one by one.
-fn apply_word_by_word(s: State, tables: &[[u64; 256]; 10], buffer: &mut [u8]) -> State
-    requires { length buffer.old % 8 ≡ 0 }
-    ensures { KeystreamOver (next_in tables.now Ordinary) 0 s buffer.old result buffer.new }
-{
-    let mut t = s;
-    let mut i: usize = 0;
-    while i < buffer.len() {
-        t = apply_word(t, tables, buffer, i);
-        i += 8;
+    for line in 0..buffer.len() / bytes {
+        let i = line * bytes;
+        t = L::apply(t, tables, &mut buffer[i..i + bytes]);
     }
     t
 }
@@ -120,7 +107,7 @@ pub fn apply_words(s: State, tables: &[[u64; 256]; 10], buffer: &mut [u8]) -> St
     let l = n / 128 * 128;
     let j = n / 64 * 64;
     let m = n / 8 * 8;
-    let a = apply_blocks(s, tables, &mut buffer[0..l]);
-    let b = apply_half_block(a, tables, &mut buffer[l..j]);
-    apply_word_by_word(b, tables, &mut buffer[j..m])
+    let a = apply_lines::<Sixteen>(s, tables, &mut buffer[0..l]);
+    let b = apply_lines::<Eight>(a, tables, &mut buffer[l..j]);
+    apply_lines::<Word>(b, tables, &mut buffer[j..m])
 }

@@ -1,5 +1,6 @@
 -- The proofs of loading's laws; a folder has the proof of the function it is named after.
 pub mod Owned
+pub mod Complement
 pub mod Strings
 pub mod Rows
 pub mod Recovered

@@ -2,7 +2,7 @@
 use mathlib.Core.Path.{◌≡◌, refl, sym, ap, ap₂, ◌∙◌}
 use mathlib.Core.Bool.{Bool, true, false}
 use mathlib.Core.List.{List, [], ◌∷◌, ◌++◌, reverse, reverse_aux, reverse-cons, reverse-reverse}
-use Prim.Native.Nat.{ℕ, zero, suc, ◌+◌, ◌-◌, ◌*◌, ◌/◌, ◌%◌, ◌^◌, ◌≤◌, ◌<◌}
+use Prim.Native.Nat.{ℕ, zero, suc, min, ◌+◌, ◌-◌, ◌*◌, ◌/◌, ◌%◌, ◌^◌, ◌≤◌, ◌<◌}
 use native.Mathlib.Omega.{arith}
 use borrow.Author.Tests.{ltb-true, ltb-false}
 use lib.Dec.{ltb, lit<}
@@ -33,6 +33,14 @@ reverse_at (x ∷ l) k h = ap (λ (r : List ℕ). at r k) (reverse-cons x l) ∙
 
 pub reverse_past : (l : List ℕ) (k : ℕ) → length l ≤ k → at (reverse l) k ≡ 0
 reverse_past l k h = get_or-eq_default (reverse l) 0 (rw (length-reverse l) h)
+
+-- a place past the largest number of 64 bits is past a string, as that number is
+pub reverse_at_most : (l : List ℕ) (k : ℕ) → length l < 2 ^ 64 → at (reverse l) (min k (2 ^ 64 - 1)) ≡ at (reverse l) k
+reverse_at_most l k h = by (ltb k (2 ^ 64)) refl
+  where
+    by : (b : Bool) → ltb k (2 ^ 64) ≡ b → at (reverse l) (min k (2 ^ 64 - 1)) ≡ at (reverse l) k
+    by true e = let lt = ltb-true k (2 ^ 64) e in ap (at (reverse l)) (omega arith)
+    by false e = let le = ltb-false k (2 ^ 64) e in reverse_past l (min k (2 ^ 64 - 1)) (omega arith) ∙ sym (reverse_past l k (omega arith))
 
 -- ---- a bound of every element
 

@@ -1,7 +1,7 @@
 // The words of a key and an IV.
 #![tactic(auto)]
 
-ghost use Rattle.std.specs.Prelude.{◌≡◌, reverse, ◌<◌};
+ghost use Rattle.std.specs.Prelude.{◌≡◌, reverse};
 ghost use Rattle.galois.specs.Words.{at, tabulate};
 ghost use Rattle.loading.specs.Loading.{word_of};
 
@@ -12,50 +12,29 @@ fn byte_from_end(string: &[u8], k: usize) -> u8
     ensures { result ≡ at (reverse string.now) k }
 {
     let n = string.len();
-    if k < n {
-        return string[n - 1 - k];
-    }
-    0
+    if k < n { string[n - 1 - k] } else { 0 }
 }
 
-// Word i of a string: the highest word is first, and in each word the most significant byte.
+// Word i of a string: the highest word is first, and in each word the most significant byte. A number of a byte that is too large for its type stops at the
+// largest one, which is past every string as it is.
 fn word_of(string: &[u8], i: usize) -> u64
-    requires { i < 8 }
     ensures { result ≡ word_of string.now i }
 {
-    let mut out: u64 = 0;
-    let mut j: usize = 8;
-    while 0 < j {
-        j -= 1;
-        out = append_byte(out, byte_from_end(string, 8 * i + j));
+    let mut word = 0;
+    for j in (0..8usize).rev() {
+        let k = i.saturating_mul(8).saturating_add(j);
+        word = append_byte(word, byte_from_end(string, k));
     }
-    out
+    word
 }
 
-// Words 0 to 3 of a string.
-pub fn four_words(string: &[u8]) -> [u64; 4]
-    ensures { result ≡ tabulate 4 (word_of string.now) }
+// Words 0 to N - 1 of a string.
+pub fn words<const N: usize>(string: &[u8]) -> [u64; N]
+    ensures { result ≡ tabulate N (word_of string.now) }
 {
-    [
-        word_of(string, 0),
-        word_of(string, 1),
-        word_of(string, 2),
-        word_of(string, 3),
-    ]
-}
-
-// Words 0 to 7 of a string.
-pub fn eight_words(string: &[u8]) -> [u64; 8]
-    ensures { result ≡ tabulate 8 (word_of string.now) }
-{
-    [
-        word_of(string, 0),
-        word_of(string, 1),
-        word_of(string, 2),
-        word_of(string, 3),
-        word_of(string, 4),
-        word_of(string, 5),
-        word_of(string, 6),
-        word_of(string, 7),
-    ]
+    let mut words = [0; N];
+    for (i, word) in words.iter_mut().enumerate() {
+        *word = word_of(string, i);
+    }
+    words
 }

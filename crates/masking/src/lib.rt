@@ -11,10 +11,8 @@ use words::{load_word, store_word};
 pub fn mask_bytes(z: u64, p: u64, part: &mut [u8])
     ensures { part.new ≡ masked (byte_at z) p part.old }
 {
-    let mut i: usize = 0;
-    while i < part.len() {
-        part[i] = part[i] ^ byte_of(z, (p % 8 + i as u64 % 8) % 8);
-        i += 1;
+    for (i, byte) in part.iter_mut().enumerate() {
+        *byte ^= byte_of(z, (p % 8 + i as u64 % 8) % 8);
     }
 }
 

@@ -4,12 +4,11 @@ use mathlib.Core.List.{List}
 use Prim.Native.Nat.{ℕ, zero, suc, ◌+◌, ◌*◌, ◌/◌, ◌%◌, ◌^◌, ◌<◌}
 use native.Mathlib.Nat.{mod-lt, zero-lt-suc}
 use native.Mathlib.Omega.{arith}
-use lib.Bits.{bit_xor, xor_comm, xor_zero_r}
+use lib.Bits.{bit_xor, xor_comm, xor_zero_r, xor_assoc}
 use lib.Dec.{eqb, eqb→eq}
 use Rattle.galois.specs.Words.{byte, word, at, UndoesWord}
 use Rattle.galois.specs.Field.{gmul}
 use Rattle.galois.proofs.Computed.{below, below₂}
-use Rattle.galois.proofs.Xor.{xor_assoc}
 use Rattle.galois.proofs.Linear.{FixesPowers, after_linear, power_fixed, fixes_below}
 use Rattle.galois.proofs.Bytes.{byte_lt, byte_word, word_ext}
 use Rattle.matrix.specs.Matrix.{xor_sum, place_in_row, circulant, row_times, circulant_times}

@@ -1,4 +1,3 @@
 -- The proofs of moving's laws.
-pub mod Signed
 pub mod Moves
 pub mod MovingLaws

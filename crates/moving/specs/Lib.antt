@@ -1,4 +1,3 @@
 -- The definitions that the contracts of moving cite, and its laws.
 pub mod Moving
-pub mod Functions
 pub mod MovingLaws

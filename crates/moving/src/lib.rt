@@ -1,66 +1,38 @@
 // Moving a state forward or back.
 #![tactic(auto)]
 
-ghost use Rattle.std.specs.Prelude.{◌≡◌};
-ghost use Rattle.moving.specs.Moving.{moved};
-ghost use Rattle.moving.specs.Functions.{span_of};
+ghost use Rattle.std.specs.Prelude.{◌≡◌, IfOk, nat_abs};
+ghost use Rattle.refusals.specs.Refusals.{number_of};
+ghost use Rattle.refusals.specs.Tests.{returned};
+ghost use Rattle.answers.specs.Answers.{answered};
+ghost use Rattle.answers.specs.Tests.{new_position};
+ghost use Rattle.moving.specs.Moving.{moving_tests, moved};
 
-use answers::{Answer, LIMIT, refused, state_number};
+use answers::{LIMIT, Refused, check_state, refuse};
 use generator::State;
 use positions::move_to;
-use refusals::numbers;
+use refusals::Refusal;
 
-// A signed count as a direction and a number: count bytes on, or count + 1 bytes back.
-#[derive(Clone, Copy)]
-struct Span {
-    back: bool,
-    count: u64,
-}
-
-// The direction and number of a count. One less where it goes back, so that the most negative count has one too.
-fn span_of(distance: i64) -> Span
-    ensures { result ≡ span_of distance }
+// The position distance bytes on, or back where it is negative; or 3, 4, 7 or 8. Of a well-formed state the sum is never too large for 64 bits.
+fn new_position(s: State, distance: i64) -> Result<u64, Refusal>
+    ensures number { number_of result ≡ returned (moving_tests s distance) }
+    ensures position { IfOk result (λ to. to ≡ nat_abs (new_position s distance)) }
 {
-    if distance < 0 {
-        Span {
-            back: true,
-            count: (-1 - distance) as u64,
-        }
-    } else {
-        Span {
-            back: false,
-            count: distance as u64,
-        }
+    check_state(s)?;
+    let to = s
+        .position
+        .checked_add_signed(distance)
+        .ok_or(Refusal::NewPositionBelow)?;
+    if to > LIMIT {
+        return Err(Refusal::NewPositionAbove);
     }
+    Ok(to)
 }
 
 // The state distance bytes on, or back where it is negative; or a refusal, with the state as it came.
-pub fn move_by(s: State, distance: i64) -> Answer
-    ensures { result ≡ moved s distance }
+pub fn move_by(s: State, distance: i64) -> Result<State, Refused>
+    ensures { answered result ≡ moved s distance }
 {
-    let number = state_number(s);
-    if number != numbers::ACCEPTED {
-        return refused(number, s);
-    }
-    let p = s.position;
-    let span = span_of(distance);
-    let n = span.count;
-    if span.back {
-        if p <= n {
-            return refused(numbers::REFUSED_NEW_POSITION_BELOW, s);
-        }
-        let t = move_to(s, p - n - 1);
-        return Answer {
-            number: numbers::ACCEPTED,
-            state: t,
-        };
-    }
-    if n > LIMIT - p {
-        return refused(numbers::REFUSED_NEW_POSITION_ABOVE, s);
-    }
-    let t = move_to(s, p + n);
-    Answer {
-        number: numbers::ACCEPTED,
-        state: t,
-    }
+    let to = new_position(s, distance).map_err(|refusal| refuse(refusal, s))?;
+    Ok(move_to(s, to))
 }

@@ -1,14 +1,14 @@
--- Bytes that are all 0: the test, and the loop that computes it.
+-- Bytes that are all 0: the test, and the fold that computes it.
 use mathlib.Core.Path.{◌≡◌, refl, sym, ap, ap₂, ◌∙◌}
 use mathlib.Core.Bool.{Bool, true, false, true≢false, ◌&&◌, and-true, and_assoc}
 use mathlib.Core.List.{List, [], ◌∷◌}
-use Prim.Native.Nat.{ℕ, zero, suc, ◌<◌, ◌≤◌}
+use Prim.Native.Nat.{ℕ, zero, suc, ◌<◌}
 use native.Mathlib.Omega.{arith}
 use borrow.Author.Tests.{ne_eqb, eqb-true, eqb-false}
 use lib.Bits.{bit_or, or_zero_l, or_add_and, and_le_r}
 use lib.Dec.{eqb}
-use lib.ListN.{length, drop, drop_of_length-le}
-use lib.Seq.{drop-cons}
+use lib.ListN.{length}
+use Rattle.std.specs.List.{fold}
 use Rattle.galois.specs.Words.{at}
 use Rattle.loading.specs.Loading.{zeros}
 use Rattle.opening.specs.Opening.{all_zero, zero_key_test, zero_key_line}
@@ -58,7 +58,7 @@ pub zeros_all_zero : (n : ℕ) → all_zero (zeros n) ≡ true
 zeros_all_zero zero = refl
 zeros_all_zero (suc n) = zeros_all_zero n
 
--- ---- the loop
+-- ---- the fold
 
 -- bits that are set in neither
 or_zero : (a b : ℕ) → eqb (bit_or a b) 0 ≡ (eqb a 0 && eqb b 0)
@@ -68,10 +68,7 @@ or_zero a b = by (eqb a 0) refl
     by true e = rw (eqb-true a 0 e, or_zero_l b)
     by false e = ne_eqb (bit_or a b) 0 (λ z. eqb-false a 0 e (omega (arith, z, or_add_and a b, and_le_r a b)))
 
-module _ (bytes : List ℕ) (bits i : ℕ) where
-  -- the bits of the byte at i, with those before it
-  pub one_byte_more : i < length bytes → (eqb bits 0 && all_zero (drop i bytes)) ≡ (eqb (bit_or bits (at bytes i)) 0 && all_zero (drop (suc i) bytes))
-  one_byte_more h = rw (drop-cons bytes i 0 h, or_zero bits (at bytes i)) (sym (and_assoc (eqb bits 0) (eqb (at bytes i) 0) (all_zero (drop (suc i) bytes))))
-
-  pub no_byte_more : length bytes ≤ i → (eqb bits 0 && all_zero (drop i bytes)) ≡ eqb bits 0
-  no_byte_more h = rw (drop_of_length-le bytes {i = i} h) (and-true (eqb bits 0))
+-- the bits of all bytes together, with those before them
+pub all_bits : (bytes : List ℕ) (bits : ℕ) → eqb (fold (λ (b byte : ℕ). bit_or b byte) bits bytes) 0 ≡ (eqb bits 0 && all_zero bytes)
+all_bits [] bits = sym (and-true (eqb bits 0))
+all_bits (b ∷ bytes) bits = all_bits bytes (bit_or bits b) ∙ rw (or_zero bits b) (and_assoc (eqb bits 0) (eqb b 0) (all_zero bytes))

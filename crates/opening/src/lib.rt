@@ -1,61 +1,52 @@
-// Opening a state from key and IV.
+// Opening a state from key and IV, two parameters in README and in the header for C.
 #![tactic(auto)]
 
 ghost use Rattle.std.specs.Prelude.{◌≡◌};
 ghost use Rattle.generator.specs.Registers.{registers_of, with_registers};
 ghost use Rattle.loading.specs.Loading.{initialised};
+ghost use Rattle.refusals.specs.Refusals.{number_of};
 ghost use Rattle.refusals.specs.Tests.{returned};
-ghost use Rattle.opening.specs.Opening.{blank, all_zero, opening_tests, opened};
+ghost use Rattle.answers.specs.Answers.{answered};
+ghost use Rattle.opening.specs.Opening.{all_zero, opening_tests, opened};
 
-use answers::Answer;
+use answers::{Refused, refuse};
 use cells::load_cells;
 use columns::step_tables;
 use generator::{Kind, State};
-use refusals::numbers;
+use refusals::Refusal;
 use walks::forward;
 
-// All of it 0.
-fn blank_state() -> State
-    ensures { result ≡ blank }
-{
-    State {
-        cells: [0; 16],
-        r1: 0,
-        r2: 0,
-        size: 0,
-        position: 0,
-    }
-}
+// The blank state: all of it 0.
+const BLANK: State = State {
+    cells: [0; 16],
+    r1: 0,
+    r2: 0,
+    size: 0,
+    position: 0,
+};
 
 // Whether every byte is 0; all are looked at, whatever they hold.
 fn all_zero(bytes: &[u8]) -> bool
     ensures { result ≡ all_zero bytes.now }
 {
-    let mut bits: u8 = 0;
-    let mut i: usize = 0;
-    while i < bytes.len() {
-        bits |= bytes[i];
-        i += 1;
-    }
-    bits == 0
+    bytes.iter().fold(0, |bits, byte| bits | *byte) == 0
 }
 
-// 1, 2 or 14, in this order, where opening refuses; else 0.
-pub fn opening_number(key: &[u8], iv: &[u8]) -> u64
-    ensures { result ≡ returned (opening_tests key.now iv.now) }
+// Whether opening accepts a key and an IV: 1, 2 or 14, in this order, where it does not.
+pub fn check_key_and_iv(key: &[u8], iv: &[u8]) -> Result<(), Refusal>
+    ensures { number_of result ≡ returned (opening_tests key.now iv.now) }
 {
-    let n = key.len();
-    match n {
+    match key.len() {
         32 | 64 => {
             if iv.len() != 32 {
-                return numbers::REFUSED_IV_LENGTH;
+                return Err(Refusal::IvLength);
             }
             if all_zero(key) {
-                return numbers::REFUSED_ZERO_KEY;
+                return Err(Refusal::ZeroKey);
             }
-            numbers::ACCEPTED
+            Ok(())
         }
-        _ => numbers::REFUSED_KEY_LENGTH,
+        _ => Err(Refusal::KeyLength),
     }
 }
 
@@ -64,33 +55,21 @@ fn initialise(s: State) -> State
     ensures { result ≡ with_registers s (initialised (registers_of s)) }
 {
     let tables = step_tables();
-    let t = forward(Kind::Initial, s, 32, &tables);
-    forward(Kind::Ordinary, t, 1, &tables)
+    let t = forward(Kind::Initial, s, 32, tables);
+    forward(Kind::Ordinary, t, 1, tables)
 }
 
 // The state of a key of 32 or 64 bytes, not all of them zero, and an IV of 32, at position 0; or a refusal, with the blank state.
-pub fn open(key: &[u8], iv: &[u8]) -> Answer
-    ensures { result ≡ opened key.now iv.now }
+pub fn open(key: &[u8], iv: &[u8]) -> Result<State, Refused>
+    ensures { answered result ≡ opened key.now iv.now }
 {
-    let number = opening_number(key, iv);
-    if number != numbers::ACCEPTED {
-        let b = blank_state();
-        return Answer {
-            number: number,
-            state: b,
-        };
-    }
-    let cells = load_cells(key, iv);
+    check_key_and_iv(key, iv).map_err(|refusal| refuse(refusal, BLANK))?;
     let loaded = State {
-        cells: cells,
+        cells: load_cells(key, iv),
         r1: 0,
         r2: 0,
         size: 8 * (key.len() as u64),
         position: 0,
     };
-    let s = initialise(loaded);
-    Answer {
-        number: numbers::ACCEPTED,
-        state: s,
-    }
+    Ok(initialise(loaded))
 }

@@ -1,14 +1,13 @@
 -- The words in which the calls for C hand their answers over.
 use Rattle.std.specs.Prelude.{ℕ, ◌-◌, ◌≡◌, cond, not, List, [], ◌∷◌, ◌++◌, eqb, take, get_or}
-use Rattle.csv_grammar.specs.declared.Answer.{Answer}
+use Rattle.csv_grammar.specs.Answers.{Answer}
 use Rattle.csv_grammar.specs.declared.Span.{Span}
 use Rattle.csv_grammar.specs.Faults.{number_of, values_of, Reads}
 use Rattle.csv_walking.specs.declared.Cursor.{Cursor}
-use Rattle.csv_walking.specs.declared.Visit.{Visit}
-use Rattle.csv_walking.specs.declared.Visit.TheVariants.{Field, Done}
+use Rattle.csv_walking.specs.Visits.{Visit, Field, Done}
 use Rattle.csv_walking.specs.Parts.{Part}
-use Rattle.csv_contents.specs.declared.Written.{Written}
-use Rattle.csv_contents.specs.declared.Written.TheVariants as written
+use Rattle.csv_contents.specs.Answers.{Written}
+use Rattle.csv_contents.specs.Answers as written
 
 -- the answer's values in two words: rows and columns, or the place and 0
 abbrev pub answer_words : Answer → List ℕ

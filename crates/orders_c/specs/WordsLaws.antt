@@ -1,15 +1,13 @@
 -- The laws of the words. proofs/WordsLaws.antt has `words_laws : WordsLaws`.
 use Rattle.std.specs.Prelude.{ℕ, ◌≡◌, true, false, List, [], ◌∷◌}
-use Rattle.csv_grammar.specs.declared.Answer.{Answer}
-use Rattle.csv_grammar.specs.declared.Answer.TheVariants.{Counts, Refused}
+use Rattle.csv_grammar.specs.Answers.{Answer, Counts, Refused}
 use Rattle.csv_grammar.specs.declared.Span.{Span}
 use Rattle.csv_grammar.specs.Faults.{number_of, Reads}
 use Rattle.csv_walking.specs.declared.Cursor.{Cursor}
-use Rattle.csv_walking.specs.declared.Visit.{Visit}
-use Rattle.csv_walking.specs.declared.Visit.TheVariants.{Field, Done}
+use Rattle.csv_walking.specs.Visits.{Visit, Field, Done}
 use Rattle.csv_walking.specs.Walking.{first}
 use Rattle.csv_walking.specs.Parts.{Part}
-use Rattle.csv_contents.specs.declared.Written.TheVariants as written
+use Rattle.csv_contents.specs.Answers as written
 use Rattle.orders_c.specs.Words.{answer_words, ReadsTo, span_words, PartTo, written_words, cursor_in, cursor_words, next_number, next_cursor, next_part}
 
 -- a field from place 4 to place 9, after which its row goes on at place 10

@@ -1,22 +1,25 @@
 // The reader of order files for C: each call with the number of its answer returned, and its values in words that the caller lends.
 #![tactic(auto)]
 
-ghost use Rattle.std.specs.Prelude.{◌≡◌, length};
+ghost use Rattle.std.specs.Prelude.{◌≡◌, ◌≤◌, length};
 ghost use Rattle.csv_walking.specs.Walking.{next_of};
 ghost use Rattle.csv_contents.specs.Contents.{answer_of, target_of, number_of};
-ghost use Rattle.orders_c.specs.Words.{ReadsTo, PartTo, written_words, cursor_in, cursor_words, next_number, next_cursor, next_part};
+ghost use Rattle.orders_c.specs.Words.{ReadsTo, PartTo, span_words, written_words, cursor_in, cursor_words, next_number, next_cursor, next_part};
 
-use csv_reader::{Answer, Cursor, Visit, Written, content, next, part, read};
-use refusals::numbers;
+use csv_reader::{Counts, Cursor, Span, content, next, part, read};
+
+// What a call returns that refuses nothing.
+const ACCEPTED: u64 = 0;
 
 // The cursor that two words hold: the place, and 0 at the start of a line.
+// No `From`: the words are C's, and an impl for Cursor would have to stand in csv_walking, which knows nothing of C.
 fn cursor_in(words: [u64; 2]) -> Cursor
     ensures { result ≡ cursor_in words }
 {
-    let at = words[0];
+    let [at, inside] = words;
     Cursor {
         at: at as usize,
-        inside: words[1] != 0,
+        inside: inside != 0,
     }
 }
 
@@ -24,11 +27,15 @@ fn cursor_in(words: [u64; 2]) -> Cursor
 fn cursor_words(w: Cursor) -> [u64; 2]
     ensures { result ≡ cursor_words w }
 {
-    let at = w.at;
-    if w.inside {
-        return [at as u64, 1];
-    }
-    [at as u64, 0]
+    [w.at as u64, w.inside as u64]
+}
+
+// The two words of a part: its start and its length.
+fn span_words(s: Span) -> [u64; 2]
+    requires { s.start ≤ s.end }
+    ensures { result ≡ span_words s }
+{
+    [s.start as u64, (s.end - s.start) as u64]
 }
 
 // 0 and the counts of rows and columns, or the number of the refusal, its place and 0.
@@ -37,13 +44,13 @@ pub extern "C" fn orders_read(text: &[u8], answer: &mut [u64; 2]) -> u64
     ensures { ReadsTo text.now result answer.new }
 {
     match read(text) {
-        Answer::Counts(rows, columns) => {
+        Ok(Counts { rows, columns }) => {
             *answer = [rows as u64, columns as u64];
-            numbers::ACCEPTED
+            ACCEPTED
         }
-        Answer::Refused(number, place) => {
-            *answer = [place as u64, 0];
-            number
+        Err(fault) => {
+            *answer = [fault.at as u64, 0];
+            fault.refusal.number()
         }
     }
 }
@@ -54,9 +61,7 @@ pub extern "C" fn orders_part(text: &[u8], row: usize, column: usize, found: &mu
     ensures { PartTo text.now row column found.new }
 {
     let s = part(text, row, column);
-    let a = s.start;
-    let e = s.end;
-    *found = [a as u64, (e - a) as u64];
+    *found = span_words(s);
 }
 
 // The content of a part to the front of the target: 0 and the count of bytes written, or the number of the refusal and 0, with the target as it was.
@@ -67,13 +72,13 @@ pub extern "C" fn orders_content(source: &[u8], target: &mut [u8], written: &mut
     ensures written_after { written.new ≡ written_words (answer_of source.now (length target.old)) }
 {
     match content(source, target) {
-        Written::Bytes(n) => {
+        Ok(n) => {
             *written = [n as u64];
-            numbers::ACCEPTED
+            ACCEPTED
         }
-        Written::Refused(number, _) => {
+        Err(fault) => {
             *written = [0];
-            number
+            fault.refusal.number()
         }
     }
 }
@@ -87,13 +92,11 @@ pub extern "C" fn orders_next(text: &[u8], cursor: &mut [u64; 2], found: &mut [u
 {
     let w = cursor_in(*cursor);
     match next(text, w) {
-        Visit::Field(s, v) => {
-            let a = s.start;
-            let e = s.end;
-            *found = [a as u64, (e - a) as u64];
+        Some((s, v)) => {
+            *found = span_words(s);
             *cursor = cursor_words(v);
             1
         }
-        Visit::Done => 0,
+        None => 0,
     }
 }

@@ -2,32 +2,28 @@
 #![tactic(auto)]
 
 ghost use Rattle.std.specs.Prelude.{◌≡◌};
-ghost use Rattle.generator.specs.declared.Kind.TheVariants.{Ordinary};
-ghost use Rattle.generator.specs.Registers.{next, previous, walked};
+ghost use Rattle.galois.specs.Alpha.{alpha_inverse_table};
+ghost use Rattle.sboxes.specs.Sboxes.{pi_inverse};
+ghost use Rattle.substitution.specs.Substitution.{matrix_inverse_tables};
 ghost use Rattle.positions.specs.Positions.{moved_to};
 
 use columns::{matrix_inverse_tables, step_tables};
 use galois::alpha_inverse_table;
-use generator::{Kind, State};
+use generator::{BackTables, Kind, State};
 use sboxes::pi_inverse_tables;
 use walks::{backward, forward};
 
-// n ordinary steps, the tables taken once.
-fn walk_on(s: State, n: u64) -> State
-    ensures { result ≡ walked (next Ordinary) n s }
+// The cipher's tables of a step back.
+pub fn back_tables() -> BackTables<'static>
+    ensures columns { result.columns.now ≡ matrix_inverse_tables }
+    ensures bytes { result.bytes.now ≡ pi_inverse }
+    ensures inverse { result.inverse.now ≡ alpha_inverse_table }
 {
-    let tables = step_tables();
-    forward(Kind::Ordinary, s, n, &tables)
-}
-
-// n ordinary steps back, the tables taken once.
-fn walk_back(s: State, n: u64) -> State
-    ensures { result ≡ walked (previous Ordinary) n s }
-{
-    let columns = matrix_inverse_tables();
-    let bytes = pi_inverse_tables();
-    let inverse = alpha_inverse_table();
-    backward(Kind::Ordinary, s, n, &columns, &bytes, &inverse)
+    BackTables {
+        columns: matrix_inverse_tables(),
+        bytes: pi_inverse_tables(),
+        inverse: alpha_inverse_table(),
+    }
 }
 
 // The state at another position, its registers walked to that position's word.
@@ -36,13 +32,10 @@ pub fn move_to(s: State, to: u64) -> State
 {
     let here = s.position / 8;
     let there = to / 8;
-    if here <= there {
-        let mut t = walk_on(s, there - here);
-        t.position = to;
-        t
+    let t = if here <= there {
+        forward(Kind::Ordinary, s, there - here, step_tables())
     } else {
-        let mut t = walk_back(s, here - there);
-        t.position = to;
-        t
-    }
+        backward(Kind::Ordinary, s, here - there, back_tables())
+    };
+    State { position: to, ..t }
 }

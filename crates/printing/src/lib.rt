@@ -1,69 +1,91 @@
-// What a program prints: text, numbers, bytes, words, and the parts of a line. No function here has an answer, and none is lent anything that it
-// could write, so there is nothing that a contract could say: what is printed is compared by the gate.
+// What the lines of programs are made of: bytes and words that print in hexadecimal digits, the number and the state of an answer, and standard output.
 #![tactic(auto)]
 
-// Standard output.
+ghost use Rattle.std.specs.Prelude.{◌≡◌, Some, flat_map};
+ghost use Rattle.answers.specs.Answers.{answered};
+ghost use Rattle.printing.specs.Printing.{byte_text, word_text};
+
+use answers::Refused;
+use generator::State;
+use std::fmt;
+
+// Standard output's number.
 const STDOUT: i32 = 1;
 
-pub fn text(t: &[u8]) {
-    io::write_all(STDOUT, t);
-}
+// A byte: two digits.
+#[derive(Clone, Copy)]
+struct Byte(u8);
 
-// A number in decimal digits.
-pub fn number(n: u64) {
-    io::print_decimal(STDOUT, n);
-}
+impl fmt::Display for Byte {
+    ghost output = { λ b. Some (byte_text b.0) };
 
-// Two hexadecimal digits.
-fn byte(b: u8) {
-    io::print_hex(STDOUT, b as u64, 2);
-}
-
-// Bytes, two digits each.
-pub fn bytes(b: &[u8]) {
-    let mut i: usize = 0;
-    while i < b.len() {
-        byte(b[i]);
-        i += 1;
+    fn fmt<W: fmt::Write>(&self, f: &mut fmt::Formatter<W>) -> fmt::Result {
+        let byte = self.0;
+        write!(f, "{byte:02x}")
     }
 }
 
-// A space and 16 hexadecimal digits: a word.
-pub fn word(w: u64) {
-    text(b" ");
-    io::print_hex(STDOUT, w, 16);
-}
+// Bytes, one after another.
+#[derive(Clone, Copy)]
+pub struct Bytes<'a>(pub &'a [u8]);
 
-// The same: the word that eight bytes hold, least significant byte first.
-fn word_of_bytes(b: &[u8]) {
-    text(b" ");
-    let mut i: usize = b.len();
-    while i > 0 {
-        i -= 1;
-        byte(b[i]);
+impl fmt::Display for Bytes<'_> {
+    ghost output = { λ b. Some (flat_map byte_text b.0.now) };
+
+    fn fmt<W: fmt::Write>(&self, f: &mut fmt::Formatter<W>) -> fmt::Result {
+        for byte in self.0 {
+            f.write(Byte(*byte))?;
+        }
+        Ok(())
     }
 }
 
-// The words of as many bytes as there are eights.
-pub fn words(b: &[u8]) {
-    let mut i: usize = 0;
-    while b.len() - i >= 8 {
-        let end = i + 8;
-        word_of_bytes(&b[i..end]);
-        i = end;
+// A word: a space and 16 digits.
+#[derive(Clone, Copy)]
+pub struct Word(pub u64);
+
+impl fmt::Display for Word {
+    ghost output = { λ w. Some (word_text w.0) };
+
+    fn fmt<W: fmt::Write>(&self, f: &mut fmt::Formatter<W>) -> fmt::Result {
+        let word = self.0;
+        write!(f, " {word:016x}")
     }
 }
 
-// The beginning of a line: a size in bits, and the line's name.
-pub fn named(bits: u64, name: &[u8]) {
-    number(bits);
-    text(b" ");
-    text(name);
+// Words, one after another.
+#[derive(Clone, Copy)]
+pub struct Words<'a>(pub &'a [u64]);
+
+impl fmt::Display for Words<'_> {
+    ghost output = { λ w. Some (flat_map word_text w.0.now) };
+
+    fn fmt<W: fmt::Write>(&self, f: &mut fmt::Formatter<W>) -> fmt::Result {
+        for word in self.0 {
+            f.write(Word(*word))?;
+        }
+        Ok(())
+    }
 }
 
-// The end of a line: a space, and bytes.
-pub fn end_with(b: &[u8]) {
-    text(b" ");
-    bytes(b);
-    text(b"\n");
+// The number that a call answers, 0 where it is accepted, and the state that it makes, or gives back where it is refused.
+pub fn number_and_state(answer: Result<State, Refused>) -> (u64, State)
+    ensures number { result.0 ≡ (answered answer).number }
+    ensures state { result.1 ≡ (answered answer).state }
+{
+    match answer {
+        Ok(s) => (0, s),
+        Err(refused) => (refused.refusal.number(), refused.state),
+    }
+}
+
+// Standard output, by the kit's `io`: a write that fails is passed over. So a program that prints assumes no more of C than its `write`, and no function has to say why a write failed.
+#[derive(Clone, Copy)]
+pub struct Out;
+
+impl fmt::Write for Out {
+    fn write_str(&mut self, text: &str) -> fmt::Result {
+        io::write_all(STDOUT, text.as_bytes());
+        Ok(())
+    }
 }

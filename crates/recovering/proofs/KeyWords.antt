@@ -1,14 +1,13 @@
 -- What the code of recovering makes, equated with the definitions.
-use mathlib.Core.Path.{◌≡◌, refl, sym, ap, ◌∙◌}
+use mathlib.Core.Path.{◌≡◌, refl, ap, ◌∙◌}
 use mathlib.Core.Bool.{Bool, true, false, cond}
 use mathlib.Core.List.{List, [], ◌∷◌}
 use Prim.Native.Nat.{ℕ, ◌*◌, ◌≤◌}
 use native.Mathlib.Omega.{arith}
-use borrow.Author.Tests.{ne_eqb, ltb-true, ltb-false}
+use borrow.Author.Tests.{ne_eqb}
 use lib.Dec.{T, eqb, ltb, ltb→lt}
-use lib.ListN.{get_or-eq_default}
 use Rattle.galois.specs.Words.{tabulate, at}
-use Rattle.galois.proofs.Bytes.{tabulate_at, tabulate_length}
+use Rattle.galois.proofs.Bytes.{at_tabulate}
 use Rattle.galois.proofs.Computed.{both, both_left, both_right}
 use Rattle.loading.specs.Loading.{word_of, Row, rows256, rows512, rows_of}
 use Rattle.loading.specs.Recovery.{key_index, recovered_word, string_of, recovered_key}
@@ -32,14 +31,6 @@ recovered_past n v c [] t i h = refl
 recovered_past n v c (row ∷ rows) t i h =
     let lt = ltb→lt (key_index row) n (both_left (ltb (key_index row) n) (words_below n rows) t) in
     rw (ne_eqb (key_index row) i (λ e. omega arith)) (recovered_past n v c rows (both_right (ltb (key_index row) n) (words_below n rows) t) i h)
-
--- a function that is 0 from n on, in a table of n entries
-at_tabulate : (n : ℕ) (f : ℕ → ℕ) → ((i : ℕ) → n ≤ i → f i ≡ 0) → (i : ℕ) → at (tabulate n f) i ≡ f i
-at_tabulate n f past i = by (ltb i n) refl
-  where
-    by : (b : Bool) → ltb i n ≡ b → at (tabulate n f) i ≡ f i
-    by true e = tabulate_at 0 n f i (ltb-true i n e)
-    by false e = let h = ltb-false i n e in get_or-eq_default (tabulate n f) 0 (omega (arith, tabulate_length n f)) ∙ sym (past i h)
 
 -- neither table has a ninth key word, or a fifth IV word
 no_ninth : (b : Bool) → T (words_below 8 (cond b rows256 rows512))

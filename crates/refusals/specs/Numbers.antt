@@ -1,4 +1,4 @@
--- Document 01, the table of returned numbers, and those of document 02: each number has one name, here, in src/numbers.rt and in the headers for C,
+-- Document 01, the table of returned numbers, and those of document 02: each number has one name, here, in src/lib.rt and in the headers for C,
 -- up to 10, 14 and 15 after STRUMOK_, and 5 and 11 to 13 after ORDERS_.
 use Rattle.std.specs.Prelude.{◌≡◌, List, [], ◌∷◌, ℕ}
 

@@ -6,20 +6,22 @@ ghost use Rattle.sboxes.specs.Sboxes.{pi, pi_inverse, through};
 
 mod tables;
 
-// ---- the tables, by value: hold them in a local and lend them
+// ---- the tables
+
+// Each has a function of its own, since the contract of each is all that it has to say: which tables the constant holds.
 
 // The four tables of π.
-pub fn pi_tables() -> [[u8; 256]; 4]
-    ensures { result ≡ pi }
+pub fn pi_tables() -> &'static [[u8; 256]; 4]
+    ensures { result.now ≡ pi }
 {
-    tables::PI
+    &tables::PI
 }
 
 // The four tables of the inverse of π.
-pub fn pi_inverse_tables() -> [[u8; 256]; 4]
-    ensures { result ≡ pi_inverse }
+pub fn pi_inverse_tables() -> &'static [[u8; 256]; 4]
+    ensures { result.now ≡ pi_inverse }
 {
-    tables::PI_INVERSE
+    &tables::PI_INVERSE
 }
 
 // ---- a word through tables
@@ -28,11 +30,9 @@ pub fn pi_inverse_tables() -> [[u8; 256]; 4]
 pub fn through_tables(w: u64, tables: &[[u8; 256]; 4]) -> u64
     ensures { result ≡ through tables.now w }
 {
-    let mut out: u64 = 0;
-    let mut j: usize = 8;
-    while 0 < j {
-        j -= 1;
-        out = galois::append_byte(out, tables[j % 4][galois::byte_of(w, j as u64) as usize]);
+    let mut bytes = w.to_le_bytes();
+    for (j, byte) in bytes.iter_mut().enumerate() {
+        *byte = tables[j % 4][usize::from(*byte)];
     }
-    out
+    u64::from_le_bytes(bytes)
 }

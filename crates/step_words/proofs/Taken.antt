@@ -33,9 +33,6 @@ module _ (f : Registers → Registers) (s : State) (b : List ℕ) where
     pub state : t ≡ walked f i s
     pub list : l ≡ filled b words i
 
-  pub taken_none : Taken 0 s b
-  taken_none = record { within = omega arith; state = refl; list = refl }
-
   pub taken_length : {i : ℕ} {t : State} {l : List ℕ} → Taken i t l → length l ≡ length b
   taken_length {i} d = ap length d.list ∙ filled_length b words words_length i d.within
 
@@ -49,7 +46,5 @@ module _ (f : Registers → Registers) (s : State) (b : List ℕ) where
       }
 
   -- after the last one
-  pub taken_all : {i : ℕ} {t : State} {l : List ℕ} → Taken i t l → length b ≤ i → (t ≡ walked f (length b) s) × (l ≡ words)
-  taken_all {i} d h =
-      let all : i ≡ length b = omega (arith, d.within) in
-      (d.state ∙ ap (λ (n : ℕ). walked f n s) all, d.list ∙ filled_all b words words_length i all)
+  pub taken_all : {i : ℕ} {t : State} {l : List ℕ} → Taken i t l → length b ≤ i → l ≡ words
+  taken_all {i} d h = d.list ∙ filled_all b words words_length i (omega (arith, d.within))

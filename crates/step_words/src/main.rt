@@ -9,7 +9,9 @@ ghost use Rattle.generator.specs.Functions.{next_in};
 use cells::load_cells;
 use columns::step_tables;
 use generator::{Kind, State, step};
-use printing::{named, text, word};
+use printing::{Out, Words};
+use std::fmt;
+use std::fmt::Write;
 use trials::tables;
 
 // As many steps as there are words lent, each of which takes the word that its step hands over; the state after them.
@@ -18,57 +20,46 @@ fn steps(kind: Kind, s: State, tables: &[[u64; 256]; 10], words: &mut [u64]) -> 
     ensures words_after { words.new ≡ words_along (stepped_by (next_in tables.now kind)) (length words.old) s }
 {
     let mut t = s;
-    let mut i: usize = 0;
-    while i < words.len() {
+    // By index: over `iter_mut` the edit steps_all_words_at_first_place, which writes every word to place 0, would lack the goals that refuse it.
+    for i in 0..words.len() {
         let stepped = step(kind, t, tables);
         words[i] = stepped.word;
         t = stepped.state;
-        i += 1;
     }
     t
 }
 
-// The words, each behind a space.
-fn print(words: &[u64]) {
-    let mut i: usize = 0;
-    while i < words.len() {
-        word(words[i]);
-        i += 1;
-    }
-}
-
-// A line of words, behind its name.
-fn line(bits: u64, name: &[u8], words: &[u64]) {
-    named(bits, name);
-    print(words);
-    text(b"\n");
-}
-
 // Two lines: the words of the 32 steps of initialisation from a loading on, and those of nine ordinary steps, of which the last eight leave S_0 to S_7.
-fn lines_from(bits: u64, key: &[u8], iv: &[u8]) {
+fn lines_from(out: &mut Out, bits: u64, key: &[u8], iv: &[u8]) -> fmt::Result {
     let tables = step_tables();
-    let cells = load_cells(key, iv);
     let loaded = State {
-        cells: cells,
+        cells: load_cells(key, iv),
         r1: 0,
         r2: 0,
         size: bits,
         position: 0,
     };
-    let mut initial = [0u64; 32];
-    let t = steps(Kind::Initial, loaded, &tables, &mut initial);
-    line(bits, b"initialisation:", &initial);
-    let mut ordinary = [0u64; 9];
-    steps(Kind::Ordinary, t, &tables, &mut ordinary);
-    line(bits, b"ordinary:", &ordinary);
+    let mut initial = [0; 32];
+    let t = steps(Kind::Initial, loaded, tables, &mut initial);
+    writeln!(out, "{bits} initialisation:{}", Words(&initial))?;
+    let mut ordinary = [0; 9];
+    steps(Kind::Ordinary, t, tables, &mut ordinary);
+    writeln!(out, "{bits} ordinary:{}", Words(&ordinary))
+}
+
+fn print_all(out: &mut Out) -> fmt::Result {
+    let key = tables::key();
+    let ivs = [tables::iv(), tables::other_iv()];
+    for iv in &ivs {
+        lines_from(out, 256, &key[..32], iv)?;
+    }
+    for iv in &ivs {
+        lines_from(out, 512, &key[..64], iv)?;
+    }
+    Ok(())
 }
 
 fn main() {
-    let key = tables::KEY;
-    let iv = tables::IV;
-    let other = tables::OTHER_IV;
-    lines_from(256, &key[..32], &iv);
-    lines_from(256, &key[..32], &other);
-    lines_from(512, &key[..64], &iv);
-    lines_from(512, &key[..64], &other);
+    // A write that fails is passed over, as `Out` does.
+    let _ = print_all(&mut Out);
 }

@@ -1,5 +1,5 @@
 // The calls for C: those of the stream cipher, each over a state of twenty words, with the number of its answer returned; the tables that a caller may
-// hold; and the block cipher.
+// hold; and the block cipher. Each export is a call for itself, with what C hands over one by one: the interface for C has no generic calls.
 #![tactic(auto)]
 
 ghost use Rattle.std.specs.Prelude.{◌≡◌};
@@ -18,6 +18,7 @@ ghost use Rattle.twenty_words.specs.TwentyWords.{state_in, words_of};
 
 use columns::step_tables;
 use kalyna::{decipher, encipher};
+use refusals::number_of;
 use strumok::{apply, apply_with, check, move_by, open, window, window_with};
 use twenty_words::{leave, state_in};
 
@@ -78,8 +79,7 @@ pub extern "C" fn strumok_check(state: &[u64; 20], iv: &[u8], key: &mut [u8]) ->
     ensures key_after { key.new ≡ checked_target (state_in state.now) iv.now key.old }
     ensures checks_exactly { ChecksExactly (state_in state.now) iv.now key.old }
 {
-    let a = check(state_in(*state), iv, key);
-    a.number
+    number_of(check(state_in(*state), iv, key).map_err(|refused| refused.refusal))
 }
 
 // ---- with tables that the caller holds
@@ -89,7 +89,7 @@ pub extern "C" fn strumok_check(state: &[u64; 20], iv: &[u8], key: &mut [u8]) ->
 pub extern "C" fn strumok_tables(tables: &mut [[u64; 256]; 10])
     ensures { tables.new ≡ step_tables }
 {
-    *tables = step_tables();
+    *tables = *step_tables();
 }
 
 // As `strumok_apply`, by the tables that are lent.
@@ -135,7 +135,7 @@ pub extern "C" fn strumok_block_encipher(key: &[u8], source: &[u8], target: &mut
     ensures value { result ≡ block_number key.now source.now target.old }
     ensures target_after { target.new ≡ enciphered_target key.now source.now target.old }
 {
-    encipher(key, source, target)
+    number_of(encipher(key, source, target))
 }
 
 // The source deciphered under the key, to the target, all of 32 bytes; or a refusal, with nothing written.
@@ -144,5 +144,5 @@ pub extern "C" fn strumok_block_decipher(key: &[u8], source: &[u8], target: &mut
     ensures value { result ≡ block_number key.now source.now target.old }
     ensures target_after { target.new ≡ deciphered_target key.now source.now target.old }
 {
-    decipher(key, source, target)
+    number_of(decipher(key, source, target))
 }

@@ -1,41 +1,39 @@
 // A word in hexadecimal digits, in capitals.
 #![tactic(auto)]
 
-ghost use Rattle.std.specs.Prelude.{◌≡◌, ◌*◌, ◌/◌, ◌%◌, ◌^◌, ◌<◌};
+ghost use Rattle.std.specs.Prelude.{◌≡◌, ◌*◌, ◌/◌, ◌%◌, ◌^◌, ◌<◌, Some};
 ghost use Rattle.text.specs.Text.{hex_digit, hex_word};
+
+use std::{array, fmt};
 
 // The ASCII code of digit i of n; digit 0 is the least significant.
 fn digit_at(n: u64, i: u64) -> u8
     requires { i < 16 }
     ensures { result ≡ hex_digit (n / 2 ^ (4 * i) % 16) }
 {
-    let d = (n >> (4 * i)) % 16;
+    let d = ((n >> (4 * i)) % 16) as u8;
     if d < 10 {
-        return (48 + d) as u8;
+        return b'0' + d;
     }
-    (55 + d) as u8
+    b'A' + (d - 10)
 }
 
-// The 16 digits of n, the most significant first.
+// The 16 digits of n, the most significant first. docs/GUARANTEES.md names it; what prints a word is HexWord, below.
 pub fn hex_word(n: u64) -> [u8; 16]
     ensures { result ≡ hex_word n }
 {
-    [
-        digit_at(n, 15),
-        digit_at(n, 14),
-        digit_at(n, 13),
-        digit_at(n, 12),
-        digit_at(n, 11),
-        digit_at(n, 10),
-        digit_at(n, 9),
-        digit_at(n, 8),
-        digit_at(n, 7),
-        digit_at(n, 6),
-        digit_at(n, 5),
-        digit_at(n, 4),
-        digit_at(n, 3),
-        digit_at(n, 2),
-        digit_at(n, 1),
-        digit_at(n, 0),
-    ]
+    array::from_fn(move |k| digit_at(n, 15 - k as u64))
+}
+
+// A word that prints as these digits.
+#[derive(Clone, Copy)]
+pub struct HexWord(pub u64);
+
+impl fmt::Display for HexWord {
+    ghost output = { λ w. Some (hex_word w.0) };
+
+    fn fmt<W: fmt::Write>(&self, f: &mut fmt::Formatter<W>) -> fmt::Result {
+        let word = self.0;
+        write!(f, "{word:016X}")
+    }
 }

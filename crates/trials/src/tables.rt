@@ -1,20 +1,36 @@
 // The bytes of the keys and IVs that edges, checks and steps are run with.
+ghost use Rattle.std.specs.Prelude.{◌≡◌, ◌+◌, ◌≤◌, slice_set};
+ghost use Rattle.galois.specs.Words.{tabulate};
+
+use std::array;
+
+// Bytes that rise by one each, from the first on.
+fn rising<const N: usize>(first: u8) -> [u8; N]
+    requires { first + N ≤ 256 }
+    ensures { result ≡ tabulate N (λ i. first + i) }
+{
+    array::from_fn(move |i| first + i as u8)
+}
 
 // Bytes from 1 on: the keys, each as many of them as its length.
-pub const KEY: [u8; 65] = [
-    1, 2, 3, 4, 5, 6, 7, 8, 9, 10, 11, 12, 13, 14, 15, 16, 17, 18, 19, 20, 21, 22, 23, 24, 25, 26,
-    27, 28, 29, 30, 31, 32, 33, 34, 35, 36, 37, 38, 39, 40, 41, 42, 43, 44, 45, 46, 47, 48, 49, 50,
-    51, 52, 53, 54, 55, 56, 57, 58, 59, 60, 61, 62, 63, 64, 65,
-];
+pub fn key() -> [u8; 65]
+    ensures { result ≡ tabulate 65 (λ i. 1 + i) }
+{
+    rising(1)
+}
 
 // Bytes from 101 on: the IV.
-pub const IV: [u8; 32] = [
-    101, 102, 103, 104, 105, 106, 107, 108, 109, 110, 111, 112, 113, 114, 115, 116, 117, 118, 119,
-    120, 121, 122, 123, 124, 125, 126, 127, 128, 129, 130, 131, 132,
-];
+pub fn iv() -> [u8; 32]
+    ensures { result ≡ tabulate 32 (λ i. 101 + i) }
+{
+    rising(101)
+}
 
 // That IV with one bit changed.
-pub const OTHER_IV: [u8; 32] = [
-    101, 102, 103, 104, 105, 106, 107, 108, 109, 110, 111, 112, 113, 114, 115, 116, 117, 118, 119,
-    120, 121, 122, 123, 124, 125, 126, 127, 128, 129, 130, 131, 133,
-];
+pub fn other_iv() -> [u8; 32]
+    ensures { result ≡ slice_set (tabulate 32 (λ i. 101 + i)) 31 133 }
+{
+    let mut iv = iv();
+    iv[31] ^= 1;
+    iv
+}

@@ -2,31 +2,29 @@
 use mathlib.Core.Path.{◌≡◌, refl, sym, ap, ◌∙◌}
 use mathlib.Core.List.{List, [], ◌∷◌, ◌++◌}
 use Prim.Native.Nat.{ℕ, ◌+◌}
+use borrow.Rule.Slice.PartMut.{put_mid}
 use native.Mathlib.Omega.{arith}
 use lib.ListN.{length, take, drop, length-drop, take-append-drop}
 use lib.Seq.{take_all, take_at, drop_at, get_or-drop}
 use Rattle.galois.specs.Words.{at}
 use Rattle.generator.specs.declared.State.{State}
-use Rattle.generator.proofs.Cells.{one_by_one, one_by_one_is}
+use Rattle.generator.proofs.Cells.{one_by_one_is}
 use Rattle.refusals.specs.Numbers.{accepted}
-use Rattle.answers.specs.declared.Answer.{Answer}
+use Rattle.answers.specs.Answers.{Answer}
 use Rattle.twenty_words.specs.TwentyWords.{words_of, state_in, TwentyWordsLaws}
 
 -- what the code of `state_in` makes
-pub state_read : (words : List ℕ) → length words ≡ 20
-    → record { cells = one_by_one words 0 16; r1 = at words 16; r2 = at words 17; size = at words 18; position = at words 19 } ≡ state_in words
+pub state_read : (words : List ℕ) {cells : List ℕ} → cells ≡ take 16 words
+    → record { cells = cells; r1 = at words 16; r2 = at words 17; size = at words 18; position = at words 19 } ≡ state_in words
 unfolding state_in
-state_read words h =
-    ap (λ (t : List ℕ). record { cells = t; r1 = at words 16; r2 = at words 17; size = at words 18; position = at words 19 })
-    (one_by_one_is words 0 16 (omega arith))
+state_read words e = ap (λ (t : List ℕ). record { cells = t; r1 = at words 16; r2 = at words 17; size = at words 18; position = at words 19 }) e
 
 -- what the code of `words_of` makes
-pub words_read : (s : State) → length s.cells ≡ 16
-    → one_by_one s.cells 0 16 ++ (s.r1 ∷ s.r2 ∷ s.size ∷ s.position ∷ []) ≡ words_of s
+pub words_written : (s : State) {cells others : List ℕ} → length s.cells ≡ 16 → cells ≡ s.cells → others ≡ s.r1 ∷ s.r2 ∷ s.size ∷ s.position ∷ []
+    → put_mid 16 4 (cells ++ (0 ∷ 0 ∷ 0 ∷ 0 ∷ [])) others ≡ words_of s
 unfolding words_of
-words_read s h =
-    ap (λ (t : List ℕ). t ++ (s.r1 ∷ s.r2 ∷ s.size ∷ s.position ∷ []))
-    (one_by_one_is s.cells 0 16 (omega arith) ∙ take_all 16 s.cells (omega arith))
+words_written s h ec eo =
+    rw (ec, eo, take_at s.cells (0 ∷ 0 ∷ 0 ∷ 0 ∷ []) 16 h, drop_at s.cells (0 ∷ 0 ∷ 0 ∷ 0 ∷ []) 16 h) refl
 
 -- the call f, which gives a state back in a refusal, on the state t of these words, whose answer a and words left are handed on: its number, the
 -- words of its state, and that they are these words where it is refused

@@ -2,21 +2,23 @@
 #![tactic(auto)]
 
 ghost use Rattle.std.specs.Prelude.{◌≡◌};
+ghost use Rattle.answers.specs.Answers.{answered};
 ghost use Rattle.twenty_words.specs.TwentyWords.{state_in, words_of};
 
-use answers::Answer;
+use answers::Refused;
 use generator::State;
+
+// Functions, since an impl of From between twenty words and a state may stand only in the state's own crate.
 
 // The state that twenty words hold; these are its words.
 pub fn state_in(words: [u64; 20]) -> State
     ensures value { result ≡ state_in words }
     ensures words_back { words_of result ≡ words }
 {
+    let mut cells = [0; 16];
+    cells.copy_from_slice(&words[..16]);
     State {
-        cells: [
-            words[0], words[1], words[2], words[3], words[4], words[5], words[6], words[7],
-            words[8], words[9], words[10], words[11], words[12], words[13], words[14], words[15],
-        ],
+        cells,
         r1: words[16],
         r2: words[17],
         size: words[18],
@@ -28,19 +30,26 @@ pub fn state_in(words: [u64; 20]) -> State
 pub fn words_of(s: State) -> [u64; 20]
     ensures { result ≡ words_of s }
 {
-    let c = s.cells;
-    [
-        c[0], c[1], c[2], c[3], c[4], c[5], c[6], c[7], c[8], c[9], c[10], c[11], c[12], c[13],
-        c[14], c[15], s.r1, s.r2, s.size, s.position,
-    ]
+    let mut words = [0; 20];
+    words[..16].copy_from_slice(&s.cells);
+    words[16..].copy_from_slice(&[s.r1, s.r2, s.size, s.position]);
+    words
 }
 
-// The answer of a call: the words of its state to the caller's, and its number.
-pub fn leave(words: &mut [u64; 20], a: Answer) -> u64
-    ensures value { result ≡ a.number }
-    ensures words_after { words.new ≡ words_of a.state }
+// The answer of a call: the words of its state to the caller's, and its number. By `match`, with the words written in each case: with one pair of number and
+// state for both cases, which moves states more often, and `map_err(..)?` in `applying`, a portion of 16 bytes took twice the instructions.
+pub fn leave(words: &mut [u64; 20], answer: Result<State, Refused>) -> u64
+    ensures value { result ≡ (answered answer).number }
+    ensures words_after { words.new ≡ words_of (answered answer).state }
 {
-    let s = a.state;
-    *words = words_of(s);
-    a.number
+    match answer {
+        Ok(s) => {
+            *words = words_of(s);
+            0
+        }
+        Err(refused) => {
+            *words = words_of(refused.state);
+            refused.refusal.number()
+        }
+    }
 }

@@ -6,103 +6,86 @@
 mod tables;
 
 use generator::State;
-use printing::{end_with, named, number, text, word, words};
+use printing::{Bytes, Out, Word, Words, number_and_state};
+use std::fmt;
+use std::fmt::Write;
 use strumok::{apply, check, open};
+use tables::{IV_4321, IV_ZERO, KEY_80, KEY_AA};
 
 // ---- the published vectors
 
 // The first eight words of the keystream.
-fn vector(place: u64, key: &[u8], iv: &[u8]) {
-    let opened = open(key, iv);
-    let s = opened.state;
-    let mut target = [0u8; 64];
-    apply(s, &[0; 64], &mut target);
-    text(b"vector ");
-    number(place);
-    text(b" ");
-    number(s.size);
-    words(&target);
-    text(b"\n");
+fn vector(out: &mut Out, place: usize, key: &[u8], iv: &[u8]) -> fmt::Result {
+    let (_, s) = number_and_state(open(key, iv));
+    let mut target = [0; 64];
+    let _ = apply(s, &[0; 64], &mut target);
+    let mut words = [0; 8];
+    for (word, eight) in words.iter_mut().zip(target.as_chunks::<8>().0) {
+        *word = u64::from_le_bytes(*eight);
+    }
+    writeln!(out, "vector {place} {}{}", s.size, Words(&words))
 }
 
-// The four of a size: two keys with the one IV, and with the other.
-fn four_vectors(first: u8, key_80: &[u8], key_aa: &[u8]) {
-    let place = first as u64;
-    let zero = tables::IV_ZERO;
-    let other = tables::IV_4321;
-    vector(place, key_80, &zero);
-    vector(place + 1, key_aa, &zero);
-    vector(place + 2, key_80, &other);
-    vector(place + 3, key_aa, &other);
+// The four of each size: two keys with the one IV, and with the other.
+fn vectors(out: &mut Out) -> fmt::Result {
+    let (short_80, short_aa) = (&KEY_80[..32], &KEY_AA[..32]);
+    let published = [
+        (short_80, &IV_ZERO),
+        (short_aa, &IV_ZERO),
+        (short_80, &IV_4321),
+        (short_aa, &IV_4321),
+        (&KEY_80, &IV_ZERO),
+        (&KEY_AA, &IV_ZERO),
+        (&KEY_80, &IV_4321),
+        (&KEY_AA, &IV_4321),
+    ];
+    for (i, (key, iv)) in published.into_iter().enumerate() {
+        vector(out, i + 1, key, iv)?;
+    }
+    Ok(())
 }
 
 // ---- keys of zeros
 
 // Opening with a key of zeros.
-fn zero_key(bits: u64, key: &[u8]) {
-    let iv = tables::IV_ZERO;
-    let opened = open(key, &iv);
-    text(b"open ");
-    named(bits, b"zeros: ");
-    number(opened.number);
-    text(b"\n");
+fn zero_key(out: &mut Out, bits: u64, key: &[u8]) -> fmt::Result {
+    let (number, _) = number_and_state(open(key, &IV_ZERO));
+    writeln!(out, "open {bits} zeros: {number}")
 }
 
 // A check into a key target of bytes FF.
-fn check_with(name: &[u8], s: State, iv: &[u8]) {
-    let mut key = [255u8; 64];
-    let a = check(s, iv, &mut key);
-    text(name);
-    number(a.number);
-    end_with(&key);
+fn check_with(out: &mut Out, name: &str, s: State, iv: &[u8]) -> fmt::Result {
+    let mut key = [255; 64];
+    let (number, _) = number_and_state(check(s, iv, &mut key));
+    writeln!(out, "check with {name}: {number} {}", Bytes(&key))
 }
 
 // Opening with a key and an IV whose words are 0 but K4 = IV3 = IV1 = x, which load what the key and the IV of zeros load, and the check of that
 // state with that IV and with the IV of zeros.
-fn loaded_alike(x: u64, key: &[u8], iv: &[u8]) {
-    let opened = open(key, iv);
-    let s = opened.state;
-    text(b"open 512 K4 = IV3 = IV1 =");
-    word(x);
-    text(b": ");
-    number(opened.number);
-    text(b"\n");
-    check_with(b"check with that IV: ", s, iv);
-    let zeros = tables::IV_ZERO;
-    check_with(b"check with an IV of zeros: ", s, &zeros);
+fn loaded_alike(out: &mut Out, x: u64) -> fmt::Result {
+    let mut key = [0; 64];
+    let mut iv = IV_ZERO;
+    let bytes = x.to_be_bytes();
+    key[24..32].copy_from_slice(&bytes);
+    iv[0..8].copy_from_slice(&bytes);
+    iv[16..24].copy_from_slice(&bytes);
+    let (number, s) = number_and_state(open(&key, &iv));
+    writeln!(out, "open 512 K4 = IV3 = IV1 ={}: {number}", Word(x))?;
+    check_with(out, "that IV", s, &iv)?;
+    check_with(out, "an IV of zeros", s, &IV_ZERO)
 }
 
-// K4, IV3 and IV1 have this lowest byte, and all others are 0.
-fn alike_in_lowest_bytes(byte: u8) {
-    let mut key = [0u8; 64];
-    let mut iv = tables::IV_ZERO;
-    key[31] = byte;
-    iv[7] = byte;
-    iv[23] = byte;
-    loaded_alike(byte as u64, &key, &iv);
-}
-
-// K4, IV3 and IV1 have this highest byte, and all others are 0.
-fn alike_in_highest_bytes(byte: u8) {
-    let mut key = [0u8; 64];
-    let mut iv = tables::IV_ZERO;
-    key[24] = byte;
-    iv[0] = byte;
-    iv[16] = byte;
-    loaded_alike((byte as u64) << 56, &key, &iv);
+fn print_all(out: &mut Out) -> fmt::Result {
+    vectors(out)?;
+    zero_key(out, 256, &[0; 32])?;
+    zero_key(out, 512, &[0; 64])?;
+    loaded_alike(out, 1)?;
+    loaded_alike(out, 1 << 63)?;
+    block_trials::published(out)?;
+    block_trials::lengths(out)
 }
 
 fn main() {
-    let key_80 = tables::KEY_80;
-    let key_aa = tables::KEY_AA;
-    four_vectors(1, &key_80[..32], &key_aa[..32]);
-    four_vectors(5, &key_80, &key_aa);
-    zero_key(256, &[0; 32]);
-    zero_key(512, &[0; 64]);
-    alike_in_lowest_bytes(1);
-    alike_in_highest_bytes(128);
-    block_trials::examples();
-    block_trials::chained_blocks();
-    block_trials::encipher_lengths();
-    block_trials::decipher_lengths();
+    // A write that fails is passed over, as `Out` does.
+    let _ = print_all(&mut Out);
 }

@@ -1,26 +1,15 @@
 -- Eight bytes set one by one, and the bytes of two words in a row as a sum of a quotient and a product.
-use Rattle.std.proofs.Common.{◌≡◌, ℕ, zero, suc, ◌+◌, ◌-◌, ◌*◌, ◌/◌, ◌%◌, ◌^◌, ◌<◌, ◌≤◌, List, [], ◌∷◌, length, set, sym, refl, ap, ◌∙◌, subst, ap₂, le_of_suc-le-suc, not-suc-le-zero, mod-lt, mul_assoc, suc-add, zero-add, arith, pow_pos, pow-add, shr-shr, shr_lt, eq-eqb}
+use Rattle.std.proofs.Common.{◌≡◌, ℕ, zero, suc, ◌+◌, ◌-◌, ◌*◌, ◌/◌, ◌%◌, ◌^◌, ◌<◌, List, [], ◌∷◌, length, sym, refl, ap, ◌∙◌, subst, ap₂, mod-lt, mul_assoc, suc-add, zero-add, arith, pow_pos, pow-add, shr-shr, shr_lt, eq-eqb}
 use mathlib.Core.Path.{fun_ext}
 use lib.Arith.{digits_lt}
 use lib.Pow.{field, mod-mod-pow}
 use Rattle.galois.specs.Words.{byte, word, tabulate, at}
-use Rattle.galois.proofs.Bytes.{tabulate_all, word_byte_lem, word_ext}
+use Rattle.galois.proofs.Bytes.{word_byte_lem, word_ext}
 use Rattle.words.specs.Memory.{stored_word, bytes_from}
-
--- eight elements, each set
-pub all_set : {a b c d e f g h : ℕ} (l : List ℕ) → length l ≡ 8 → set (set (set (set (set (set (set (set l 0 a) 1 b) 2 c) 3 d) 4 e) 5 f) 6 g) 7 h ≡ a ∷ b ∷ c ∷ d ∷ e ∷ f ∷ g ∷ h ∷ []
-all_set {a} {b} {c} {d} {e} {f} {g} {h} l n =
-    ap (λ (k : List ℕ). set (set (set (set (set (set (set (set k 0 a) 1 b) 2 c) 3 d) 4 e) 5 f) 6 g) 7 h) (tabulate_all l ∙ ap (λ (m : ℕ). tabulate m (at l)) n)
 
 -- a word stored over eight bytes
 pub stored_eight : (x : ℕ) (l : List ℕ) → length l ≡ 8 → stored_word x l ≡ tabulate 8 (byte x)
 stored_eight x l n = rw (eq-eqb (length l) 8 n) refl
-
--- past its end a list has 0
-pub at_past : (l : List ℕ) (i : ℕ) → length l ≤ i → at l i ≡ 0
-at_past [] i h = refl
-at_past (x ∷ l) zero h = absurd (not-suc-le-zero h)
-at_past (x ∷ l) (suc i) h = at_past l i (le_of_suc-le-suc h)
 
 -- ---- bytes of two words
 

@@ -8,5 +8,10 @@ use Rattle.applying.specs.AnyStep.{applied_by, applied_target_by}
 use Rattle.applying.proofs.AnyStepLaws.{any_step_laws}
 use Rattle.applying.proofs.apply.Goals as goal
 
-pub returns : goal.returns
-returns c = let a = c.args in record { value = c.apply_with.ensures.value ∙ ap (λ (l : List (List ℕ)). applied_by (next_in l Ordinary) a.s a.source.now a.target.now) c.step_tables-tables.ensures ∙ any_step_laws.applied_by_lem a.s a.source.now a.target.now; target_after = c.apply_with.ensures.target_after ∙ ap (λ (l : List (List ℕ)). applied_target_by (next_in l Ordinary) a.s a.source.now a.target.now) c.step_tables-tables.ensures ∙ any_step_laws.applied_target_by_lem a.s a.source.now a.target.now }
+pub returns-clause-value : goal.returns-clause-value
+returns-clause-value c = let a = c.args in
+    c.apply_with.ensures.value ∙ ap (λ (l : List (List ℕ)). applied_by (next_in l Ordinary) a.s a.source.now a.target.now) c.step_tables.ensures ∙ any_step_laws.applied_by_lem a.s a.source.now a.target.now
+
+pub returns-clause-target_after : goal.returns-clause-target_after
+returns-clause-target_after c = let a = c.args in
+    c.apply_with.ensures.target_after ∙ ap (λ (l : List (List ℕ)). applied_target_by (next_in l Ordinary) a.s a.source.now a.target.now) c.step_tables.ensures ∙ any_step_laws.applied_target_by_lem a.s a.source.now a.target.now

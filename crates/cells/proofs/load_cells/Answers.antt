@@ -5,8 +5,8 @@ use Rattle.cells.proofs.load_cells.Goals as goal
 
 pub returns-then-key-eq32 : goal.returns-then-key-eq32
 returns-then-key-eq32 c = let a = c.args in
-    c.cells_256.ensures ∙ loaded_256 a.key.now a.iv.now c.four_words-v.ensures c.if-key-eq32.true c.four_words-k.ensures
+    c.cells_256.ensures ∙ loaded_256 a.key.now a.iv.now c.words-v.ensures c.if-key-eq32.true c.words.ensures
 
 pub returns-else-key-eq32 : goal.returns-else-key-eq32
 returns-else-key-eq32 c = let a = c.args in
-    c.cells_512.ensures ∙ loaded_512 a.key.now a.iv.now c.four_words-v.ensures c.if-key-eq32.false c.eight_words-k.ensures
+    c.cells_512.ensures ∙ loaded_512 a.key.now a.iv.now c.words-v.ensures c.if-key-eq32.false c.words-else-key-eq32.ensures

@@ -11,9 +11,10 @@ use Rattle.checking.proofs.walk_to_loading.Goals as goal
 
 pub returns : goal.returns
 unfolding loaded_of loaded_from
-returns c = let by = backward_by_tables c.matrix_inverse_tables-columns.ensures c.pi_inverse_tables-bytes.ensures c.alpha_inverse_table-inverse.ensures in
+returns c = let tables = c.back_tables-tables in
+    let by = backward_by_tables tables.ensures.columns tables.ensures.bytes tables.ensures.inverse in
     let s = c.args.s in
-    let step = previous_by c.matrix_inverse_tables-columns.result c.pi_inverse_tables-bytes.result c.alpha_inverse_table-inverse.result in
+    let step = previous_by tables.result.columns.now tables.result.bytes.now tables.result.inverse.now in
     let ordinary : c.backward-t.result ≡ walked (step Ordinary) (s.position / 8 + 1) s = c.backward-t.ensures in
     let initial : c.backward.result ≡ walked (step Initial) 32 c.backward-t.result = c.backward.ensures in
     initial ∙ by Initial 32 c.backward-t.result ∙ ap (walked (previous Initial) 32) (ordinary ∙ by Ordinary (s.position / 8 + 1) s)

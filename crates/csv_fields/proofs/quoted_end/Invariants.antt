@@ -6,8 +6,8 @@ use lib.ListN.{length, drop}
 use Rattle.csv_fields.specs.Ends.{quoted_end}
 use Rattle.csv_fields.proofs.quoted_end.Given as goal
 
-abbrev pub invariant-loop-i : goal.invariant-loop-i
-invariant-loop-i l = quoted_end false l.from (drop l.from l.text) ≡ quoted_end false l.i (drop l.i l.text)
+abbrev pub invariant-quotes : goal.invariant-quotes
+invariant-quotes l = quoted_end false l.from (drop l.from l.text) ≡ quoted_end false l.i (drop l.i l.text)
 
-abbrev pub decreases-loop-i : goal.decreases-loop-i
-decreases-loop-i l = length l.text - l.i
+abbrev pub decreases-quotes : goal.decreases-quotes
+decreases-quotes l = length l.text - l.i

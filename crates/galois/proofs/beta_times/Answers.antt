@@ -5,4 +5,4 @@ use Rattle.galois.proofs.Gmul.{xtime_lt}
 use Rattle.galois.proofs.beta_times.Goals as goal
 
 pub returns : goal.returns
-returns c = mod-eq_of_lt (xtime_lt c.args.a (search rules))
+returns c = rw c.from-x.ensures (mod-eq_of_lt (xtime_lt c.args.a (search rules)))

@@ -1,9 +1,8 @@
 -- `generator::substitute` meets its contract: the xor of the entries at the eight bytes, from the last to the first.
 -- the xor of eight words, from the last to the first
 use Rattle.std.proofs.Common.{◌≡◌, ℕ, [], get_or, sym, ap, ◌∙◌}
-use lib.Bits.{bit_xor, xor_comm}
+use lib.Bits.{bit_xor, xor_comm, xor_assoc}
 use Rattle.galois.specs.Words.{at, byte}
-use Rattle.galois.proofs.Xor.{xor_assoc}
 use Rattle.substitution.specs.Substitution.{look_up}
 use Rattle.generator.proofs.substitute.Goals as goal
 

@@ -1,6 +1,11 @@
--- `kalyna::load_block` meets its contract.
-use Rattle.kalyna.proofs.Blocks.{loaded}
+-- `kalyna::load_block` meets its contract: word by word.
+use Rattle.std.proofs.Common.{rules, ◌+◌, ◌*◌}
+use Rattle.galois.specs.Words.{word, at}
+use Rattle.kalyna_cipher.specs.Blocks.{block_of}
+use Rattle.kalyna_rounds.proofs.Made.{made_by}
+use Rattle.kalyna.proofs.Blocks.{part_word}
 use Rattle.kalyna.proofs.load_block.Goals as goal
 
 pub returns : goal.returns
-returns c = loaded c.args.bytes.now c.requires c.load_word.ensures c.load_word-2.ensures c.load_word-3.ensures c.load_word-4.ensures
+unfolding block_of
+returns c = made_by 0 _ 4 (λ i. word 8 (λ j. at c.args.bytes.now (8 * i + j))) _ (λ i y q l called. search (rules, part_word)) c.from_fn.ensures.items

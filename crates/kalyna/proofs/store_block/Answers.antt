@@ -1,6 +1,10 @@
--- `kalyna::store_block` meets its contract.
-use Rattle.kalyna.proofs.Blocks.{stored}
+-- `kalyna::store_block` meets its contract: byte by byte.
+use Rattle.std.proofs.Common.{rules, ◌/◌, ◌%◌}
+use Rattle.galois.specs.Words.{byte, at}
+use Rattle.kalyna_cipher.specs.Blocks.{bytes_of}
+use Rattle.kalyna_rounds.proofs.Made.{made_by}
 use Rattle.kalyna.proofs.store_block.Goals as goal
 
 pub returns : goal.returns
-returns c = stored c.args.s c.args.bytes.now c.requires c.store_word.ensures c.store_word-2.ensures c.store_word-3.ensures c.store_word-4.ensures
+unfolding bytes_of
+returns c = made_by 0 _ 32 (λ i. byte (at c.args.s (i / 8)) (i % 8)) _ (λ i y q l called. search rules) c.from_fn.ensures.items

@@ -2,7 +2,7 @@
 use Prim.Native.Nat.{◌-◌, ◌%◌}
 use native.Mathlib.Omega.{arith}
 use lib.ListN.{length}
-use Rattle.keystream_words.proofs.Parts.{none_done, part_done, all_done, done_length}
+use Rattle.keystream_words.proofs.Parts.{none_done, part_done, all_done}
 use Rattle.keystream.proofs.apply_from.Goals as goal
 
 pub returns : goal.returns
@@ -11,4 +11,4 @@ returns c = let a = c.args in
     let d0 = none_done {p = a.p} {s = a.s} {b = a.buffer.now} c.requires in
     let d1 = part_done d0 ((8 - a.p) % 8) (omega arith) (omega (arith, c)) (omega (arith, c.requires)) c.apply_edge-a.ensures in
     let d2 = part_done d1 n (omega (arith, c)) (omega arith) (omega (arith, c.requires)) c.apply_aligned.ensures in
-    all_done d2 (omega (arith, done_length d2))
+    all_done d2 (omega arith)

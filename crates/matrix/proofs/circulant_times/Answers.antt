@@ -1,18 +1,14 @@
--- `matrix::circulant_times` meets its contract: the bytes from i on are in place.
-use native.Mathlib.Omega.{arith}
-use Rattle.galois.proofs.Built.{built_start, built_more, built_end}
-use Rattle.matrix.specs.Matrix.{circulant_times}
+-- `matrix::circulant_times` meets its contract: once all eight bytes are there, the word is theirs.
+use Rattle.std.proofs.Common.{◌≡◌, ◌∙◌, arith}
+use Rattle.std.specs.Int.{w64, from_le_bytes}
+use Rattle.galois.proofs.Bytes.{from_le_bytes_each}
+use Rattle.matrix.specs.Matrix.{row_times, circulant_times}
 use Rattle.matrix.proofs.circulant_times.Goals as goal
-
-pub loop-i-init : goal.loop-i-init
-loop-i-init c = built_start _
-
-pub row_times-requires : goal.row_times-requires
-row_times-requires c = omega (arith, c.loop-i.invariant.most)
-
-pub loop-i-preserved : goal.loop-i-preserved
-loop-i-preserved c = built_more c.loop-i.invariant c.loop-i-test.true c.row_times.ensures c.append_byte-out.ensures
 
 pub returns : goal.returns
 unfolding circulant_times
-returns c = built_end c.loop-i.invariant c.loop-i-test.false
+returns c =
+    let l = c.loop-i in
+    let a = c.args in
+    let e : c.from_le_bytes.result ≡ from_le_bytes w64 l.byte-items = c.from_le_bytes.ensures in
+    e ∙ from_le_bytes_each l.byte-items (λ k. row_times a.row.now k a.w) (λ k h. l.invariant k (omega arith))

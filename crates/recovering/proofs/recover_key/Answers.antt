@@ -6,4 +6,4 @@ use Rattle.recovering.proofs.recover_key.Goals as goal
 
 pub returns : goal.returns
 returns c = let a = c.args in
-    c.write_words.ensures ∙ recovered_key_lem (length a.key.now) a.iv.now a.cells c.four_words-v.ensures c.key_words-words.ensures
+    c.write_words.ensures ∙ recovered_key_lem (length a.key.now) a.iv.now a.cells c.words.ensures c.key_words.ensures

@@ -1,18 +1,18 @@
--- `sboxes::through_tables` meets its contract: the bytes from j on are in place.
-use mathlib.Core.Path.{ap}
-use Prim.Native.Nat.{◌-◌}
-use Rattle.galois.proofs.Built.{built_start, built_more, built_end}
+-- `sboxes::through_tables` meets its contract: once all eight bytes are sent, the word is that of the bytes sent.
+use Rattle.std.proofs.Common.{◌≡◌, ap, ◌∙◌, rules, arith}
+use Rattle.std.specs.Int.{w64, from_le_bytes}
+use Rattle.galois.specs.Words.{byte, at}
+use Rattle.galois.proofs.Bytes.{at_le_bytes, from_le_bytes_each}
 use Rattle.sboxes.specs.Sboxes.{sent, through}
 use Rattle.sboxes.proofs.through_tables.Goals as goal
 
 pub loop-j-init : goal.loop-j-init
-loop-j-init c = built_start _
-
-pub loop-j-preserved : goal.loop-j-preserved
-loop-j-preserved c = let a = c.args in
-    built_more c.loop-j.invariant c.loop-j-test.true
-    (ap (sent a.tables.now (c.loop-j.j - 1)) c.byte_of.ensures) c.append_byte-out.ensures
+loop-j-init c =
+    record { done = λ k h. absurd (omega arith); left = λ k h. ap (λ l. at l k) c.to_le_bytes-bytes.ensures ∙ at_le_bytes c.args.w k (search rules) }
 
 pub returns : goal.returns
 unfolding through
-returns c = built_end c.loop-j.invariant c.loop-j-test.false
+returns c =
+    let l = c.loop-j in
+    let e : c.from_le_bytes.result ≡ from_le_bytes w64 l.byte-items = c.from_le_bytes.ensures in
+    e ∙ from_le_bytes_each l.byte-items (λ k. sent c.args.tables.now k (byte c.args.w k)) (λ k h. l.invariant.done k (omega arith))

@@ -1,6 +1,6 @@
 -- `strumok_c::strumok_open` meets its contract.
 use mathlib.Core.Path.{ap, ◌∙◌}
-use Rattle.answers.specs.declared.Answer.{Answer}
+use Rattle.answers.specs.Answers.{Answer}
 use Rattle.twenty_words.specs.TwentyWords.{words_of}
 use Rattle.strumok_c.proofs.strumok_open.Goals as goal
 

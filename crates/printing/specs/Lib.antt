@@ -1,0 +1,2 @@
+-- The bytes that the values of printing print.
+pub mod Printing

@@ -1,3 +1,0 @@
--- The proofs of walks.
-pub mod Turns
-pub mod Lines
