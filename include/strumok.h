@@ -27,8 +27,7 @@
  * A state is as secret as its key: strumok_check turns the one into the other. So is a key target, and the target of a deciphered key.
  * Secrecy of timing is not claimed: tables are indexed by bytes that are secret. No call wipes what it leaves on the stack.
  *
- * Stack, measured on x86-64: at most 22 KiB for a call, most of it for tables, 42 KiB for strumok_move where the distance is negative,
- * 2 KiB for the two calls with tables that the caller holds, and for a block 10 KiB to encipher it and 19 KiB to decipher it.
+ * Stack, measured on x86-64: at most 5 KiB for a call.
  */
 #ifndef STRUMOK_H
 #define STRUMOK_H
@@ -135,8 +134,8 @@ STRUMOK_MUST_USE STRUMOK_NONNULL
 uint64_t strumok_check(const uint64_t state[STRUMOK_STATE_WORDS], const uint8_t *iv, size_t iv_len, uint8_t *key, size_t key_len);
 
 /*
- * Portions with tables that the caller holds. Each call above brings its tables to the stack anew, which for a short portion is most of its
- * cost. A caller with short portions fills 2,560 words once, with strumok_tables, and lends them to the two calls below; they are only read,
+ * Portions with tables that the caller holds. The calls above go by tables that stand in the library as constants. A caller who wants them
+ * elsewhere in memory fills 2,560 words once, with strumok_tables, and lends them to the two calls below; they are only read,
  * may be shared by any number of states, and may stand in read-only memory. With these words the calls are strumok_apply and
  * strumok_window, with the same refusals. With other words in them, nothing worse happens than a keystream that is not Strumok's.
  */

@@ -63,7 +63,7 @@ struct strumok_state {
  * Threads: the call keeps nothing from one call to the next, and has no data of its own that is written. Calls over different states and
  * buffers may run at the same time.
  *
- * The call takes some 21 KiB of stack (measured), most of it for its tables. Secrecy of timing is not claimed: tables are indexed by
+ * The call takes some 2 KiB of stack (measured). Secrecy of timing is not claimed: tables are indexed by
  * bytes that are secret.
  */
 STRUMOK_MUST_USE STRUMOK_NONNULL
