@@ -1,5 +1,5 @@
 -- A block in either direction, the test of a call, and what a call past it writes, over variables.
-use mathlib.Core.Path.{◌≡◌, refl, sym}
+use mathlib.Core.Path.{◌≡◌, refl, sym, ap, ◌∙◌}
 use mathlib.Core.Logic.{◌⊎◌, inl, inr}
 use mathlib.Core.Bool.{Bool, true, false, true≢false, not, ◌&&◌}
 use mathlib.Core.List.{List, []}
@@ -32,6 +32,15 @@ enciphers key source = refl
 pub deciphers : (key source : List ℕ) → bytes_through subtracted round_inverse reverse key source ≡ deciphered_bytes key source
 unfolding bytes_through through middle decipher_with rounds_back
 deciphers key source = refl
+
+-- what a call leaves, where its round by tables is the rule's
+pub by_tables :
+    (joined : List ℕ → List ℕ → List ℕ) {R R' : List ℕ → List ℕ} (ordered : List (List ℕ) → List (List ℕ)) {b : List ℕ} (key source target : List ℕ)
+    → R ≡ R' → bytes_through joined R' ordered key source ≡ b
+    → written (block_tests key source target) (bytes_through joined R ordered key source) target ≡ written (block_tests key source target) b target
+by_tables joined ordered key source target e f =
+    ap (λ (r : List ℕ → List ℕ). written (block_tests key source target) (bytes_through joined r ordered key source) target) e
+    ∙ ap (λ (x : List ℕ). written (block_tests key source target) x target) f
 
 -- ---- the test
 
