@@ -27,7 +27,7 @@
  * A state is as secret as its key: strumok_check turns the one into the other. So is a key target, and the target of a deciphered key.
  * Secrecy of timing is not claimed: tables are indexed by bytes that are secret. No call wipes what it leaves on the stack.
  *
- * Stack, measured on x86-64: at most 5 KiB for a call.
+ * Stack, measured on x86-64: at most 5 KiB for a call, 2 KiB for the two calls with tables that the caller holds.
  */
 #ifndef STRUMOK_H
 #define STRUMOK_H

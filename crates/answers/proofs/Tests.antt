@@ -7,7 +7,7 @@ use Rattle.generator.specs.declared.State.{State}
 use Rattle.refusals.specs.Numbers.{accepted}
 use Rattle.refusals.specs.Tests.{Test, returned}
 use Rattle.refusals.proofs.Tests.{returned_none}
-use Rattle.answers.specs.Answers.{Answer}
+use Rattle.answers.specs.declared.numbered.Answer.{Answer}
 use Rattle.answers.specs.Tests.{limit, size_mark_test, position_test, WellFormed, answer_of}
 
 -- a well-formed state is not above the last position

@@ -3,7 +3,7 @@ use Rattle.std.specs.Prelude.{◌≡◌, List, [], ◌∷◌, ℕ, ◌+◌, ◌/
 use Rattle.generator.specs.declared.State.{State}
 use Rattle.refusals.specs.Numbers.{accepted, refused_key_length, refused_iv_length, refused_size_mark, refused_position_above, refused_window_past_end, refused_new_position_above, refused_new_position_below, refused_key_target_length}
 use Rattle.refusals.specs.Lines.{Line, target_line, numbers_of, NoneLower, NoneApplies, RefusesInOrder}
-use Rattle.answers.specs.Answers.{Answer}
+use Rattle.answers.specs.declared.numbered.Answer.{Answer}
 use Rattle.answers.specs.Tests.{WellFormed}
 
 -- ---- the lines

@@ -4,7 +4,7 @@ use Rattle.std.specs.Int.Signed.{lt_z}
 use Rattle.generator.specs.declared.State.{State}
 use Rattle.refusals.specs.Numbers.{accepted, refused_key_length, refused_iv_length, refused_size_mark, refused_position_above, refused_window_past_end, refused_new_position_above, refused_new_position_below, refused_key_target_length}
 use Rattle.refusals.specs.Tests.{Test, returned}
-use Rattle.answers.specs.Answers.{Answer}
+use Rattle.answers.specs.declared.numbered.Answer.{Answer}
 
 -- "Positions run from 0 to 16,777,216 inclusive."
 abbrev pub limit : ℕ

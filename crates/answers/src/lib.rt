@@ -1,5 +1,7 @@
-// What all calls share: a refused call's error, the last position, and the tests of a state.
+// What all calls share: the answer, a refused call's error, the last position, the tests of a state, and what a refusal gives back.
 #![tactic(auto)]
+
+pub mod numbered;
 
 ghost use Rattle.refusals.specs.Refusals.{number_of};
 ghost use Rattle.refusals.specs.Tests.{returned};
@@ -7,6 +9,7 @@ ghost use Rattle.std.specs.Prelude.{◌≡◌};
 ghost use Rattle.answers.specs.Tests.{state_tests};
 
 use generator::State;
+pub use numbered::Answer;
 use refusals::Refusal;
 
 // The last byte position.

@@ -16,7 +16,7 @@ use Rattle.refusals.specs.Numbers.{accepted}
 use Rattle.refusals.specs.Tests.{Test, target_test, returned, written}
 use Rattle.refusals.specs.Lines.{Line, target_line}
 use Rattle.refusals.proofs.Lines.{Decides, DecideAll, writes_nothing, target_decides}
-use Rattle.answers.specs.Answers.{Answer}
+use Rattle.answers.specs.declared.numbered.Answer.{Answer}
 use Rattle.answers.specs.Tests.{window_test, WellFormed, answer_of}
 use Rattle.answers.specs.Lines.{window_line, RefusesExactly, WritesNothing}
 use Rattle.answers.proofs.Tests.{position_le}

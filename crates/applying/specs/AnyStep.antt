@@ -6,7 +6,7 @@ use Rattle.generator.specs.Registers.{Registers, registers_of, state_of, iterate
 use Rattle.masking.specs.Masking.{masked}
 use Rattle.keystream_words.specs.Keystream.{stream_byte}
 use Rattle.refusals.specs.Tests.{written}
-use Rattle.answers.specs.Answers.{Answer}
+use Rattle.answers.specs.declared.numbered.Answer.{Answer}
 use Rattle.answers.specs.Tests.{answer_of}
 use Rattle.applying.specs.Applying.{applying_tests, window_tests}
 

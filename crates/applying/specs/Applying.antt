@@ -8,7 +8,7 @@ use Rattle.masking.specs.Masking.{byte_at, masked}
 use Rattle.loading.specs.Loading.{registers_at}
 use Rattle.refusals.specs.Tests.{Test, target_test, written}
 use Rattle.refusals.specs.Lines.{Line, target_line}
-use Rattle.answers.specs.Answers.{Answer}
+use Rattle.answers.specs.declared.numbered.Answer.{Answer}
 use Rattle.answers.specs.Tests.{state_tests, window_test, new_position, new_position_above_test, answer_of}
 use Rattle.answers.specs.Lines.{state_lines, window_line, new_position_on_line}
 use Rattle.positions.specs.Positions.{moved_to}

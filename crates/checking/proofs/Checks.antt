@@ -17,7 +17,7 @@ use Rattle.loading.specs.Recovery.{recovered_key}
 use Rattle.loading.proofs.LoadingLaws.{loading_laws}
 use Rattle.refusals.specs.Tests.{Test, returned}
 use Rattle.refusals.specs.Numbers.{accepted, refused_no_key_leads}
-use Rattle.answers.specs.Answers.{Answer}
+use Rattle.answers.specs.declared.numbered.Answer.{Answer}
 use Rattle.answers.specs.Tests.{iv_length_test, size_mark_test, position_test, key_target_test, state_tests, WellFormed}
 use Rattle.checking.specs.Checking.{loaded_of, key_of, same_words, same_registers, key_leads, no_key_leads_test, tests_before10, checking_tests, checked, checked_target}
 use Rattle.opening.specs.Opening.{opening_accepts}

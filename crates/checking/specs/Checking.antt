@@ -7,7 +7,7 @@ use Rattle.loading.specs.Recovery.{loaded_from, recovered_key}
 use Rattle.refusals.specs.Numbers.{refused_no_key_leads}
 use Rattle.refusals.specs.Tests.{Test, written}
 use Rattle.refusals.specs.Lines.{Line}
-use Rattle.answers.specs.Answers.{Answer}
+use Rattle.answers.specs.declared.numbered.Answer.{Answer}
 use Rattle.answers.specs.Tests.{iv_length_test, key_target_test, state_tests, answer_of}
 use Rattle.answers.specs.Lines.{iv_length_line, key_target_line, state_lines}
 use Rattle.opening.specs.Opening.{opening_accepts, Leads}

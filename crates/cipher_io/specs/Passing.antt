@@ -3,7 +3,7 @@
 use Rattle.std.specs.Prelude.{◌≡◌, List, [], ◌++◌, ℕ, ◌+◌, ◌-◌, ◌<◌, ◌≤◌, min, length, take}
 use Rattle.generator.specs.declared.State.{State}
 use Rattle.refusals.specs.Numbers.{accepted}
-use Rattle.answers.specs.Answers.{Answer}
+use Rattle.answers.specs.declared.numbered.Answer.{Answer}
 use Rattle.answers.specs.Tests.{limit}
 use Rattle.applying.specs.Applying.{windowed, windowed_buffer}
 use Rattle.framing.specs.Framing.{key_length_in, started, after_pieces, joined}

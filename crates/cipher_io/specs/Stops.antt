@@ -21,9 +21,9 @@ abbrev pub count_of : Result ℕ Stop → ℕ
 count_of (Ok n) = n
 count_of (Err stop) = 0
 
--- what the program says of it on standard error, without the line feed: nothing where the input ended
+-- what the program says of it on standard error, with the line feed: nothing where the input ended
 abbrev pub message_of : Stop → Option (List ℕ)
 message_of InputEnded = None
-message_of ReadingFailed = Some (ascii "cipher: reading failed, the output may not be whole")
-message_of WritingFailed = Some (ascii "cipher: writing failed, the output is not whole")
-message_of InputLeftOver = Some (ascii "cipher: stopped after 16777216 bytes of data, there was more")
+message_of ReadingFailed = Some (ascii "cipher: reading failed, the output may not be whole\n")
+message_of WritingFailed = Some (ascii "cipher: writing failed, the output is not whole\n")
+message_of InputLeftOver = Some (ascii "cipher: stopped after 16777216 bytes of data, there was more\n")

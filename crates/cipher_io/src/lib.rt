@@ -20,6 +20,11 @@ use refusals::Refusal;
 use std::io::Read;
 use stops::Stop;
 
+// Standard output and standard error.
+const STDOUT: i32 = 1;
+
+const STDERR: i32 = 2;
+
 // The bytes of the buffer that the data pass through.
 const BUFFER_BYTES: usize = 65536;
 
@@ -53,23 +58,34 @@ fn read_header(rt: &HostRuntime, header: &mut [u8; LONGEST_HEADER]) -> (usize, R
     }
 }
 
-// Writes the line of a refusal.
-fn write_refusal(rt: &HostRuntime, refusal: Refusal) -> Result<(), Stop>
+// Writes all of the bytes to standard output, by the kit's `io`: a write that a signal interrupts has failed, where std would write again.
+fn write_out(bytes: &[u8]) -> Result<(), Stop>
     ensures { (stop_of result ≡ going_on → ⊥) → stop_of result ≡ writing_failed }
 {
-    rt.print(refusal_line(refusal.number()))
-        .map_err(|_| Stop::WritingFailed)
+    if io::write_all(STDOUT, bytes) {
+        Ok(())
+    } else {
+        Err(Stop::WritingFailed)
+    }
+}
+
+// Writes the line of a refusal.
+fn write_refusal(refusal: Refusal) -> Result<(), Stop>
+    ensures { (stop_of result ≡ going_on → ⊥) → stop_of result ≡ writing_failed }
+{
+    let line = refusal_line(refusal.number());
+    write_out(&line.bytes[..line.count])
 }
 
 // Writes the piece with the keystream applied; where the window call refuses it, nothing.
-fn write_piece(rt: &HostRuntime, s: State, piece: &mut [u8]) -> (State, Result<(), Stop>)
+fn write_piece(s: State, piece: &mut [u8]) -> (State, Result<(), Stop>)
     ensures state_value { result.0 ≡ (windowed s piece.old 0 (length piece.old)).state }
     ensures piece_value { stop_of result.1 ≡ going_on → (windowed s piece.old 0 (length piece.old)).number ≡ accepted }
     ensures piece_after { piece.new ≡ windowed_buffer s piece.old 0 (length piece.old) }
 {
     let n = piece.len();
     match window(s, piece, 0, n) {
-        Ok(t) => (t, rt.write_all(piece).map_err(|_| Stop::WritingFailed)),
+        Ok(t) => (t, write_out(piece)),
         Err(refused) => (refused.state, Err(Stop::WritingFailed)),
     }
 }
@@ -81,7 +97,7 @@ fn pass_piece(rt: &HostRuntime, s: State, buffer: &mut [u8]) -> (State, Result<(
 {
     let most = room(s, buffer.len());
     match read_once(rt, &mut buffer[..most]) {
-        Ok(n) => write_piece(rt, s, &mut buffer[..n]),
+        Ok(n) => write_piece(s, &mut buffer[..n]),
         Err(stop) => (s, Err(stop)),
     }
 }
@@ -115,9 +131,9 @@ fn last_stop(rt: &HostRuntime, position: u64, stop: Stop) -> Stop
 }
 
 // Says on standard error why the program stopped, where that is no end of the input; where that fails, there is nowhere to say so.
-fn report(rt: &HostRuntime, stop: Stop) {
+fn report(stop: Stop) {
     if let Some(message) = stop.message() {
-        let _ = rt.eprintln(message);
+        io::write_all(STDERR, message.as_bytes());
     }
 }
 
@@ -128,18 +144,18 @@ pub fn run(rt: &HostRuntime) -> Result<State, Refused>
     let mut header = [0; LONGEST_HEADER];
     let (count, read) = read_header(rt, &mut header);
     if let Err(stop) = read {
-        report(rt, stop);
+        report(stop);
     }
     let state = match start(&header[..count]) {
         Ok(state) => state,
         Err(refused) => {
-            if let Err(stop) = write_refusal(rt, refused.refusal) {
-                report(rt, stop);
+            if let Err(stop) = write_refusal(refused.refusal) {
+                report(stop);
             }
             return Err(refused);
         }
     };
     let (state, stop) = pass_data(rt, state);
-    report(rt, last_stop(rt, state.position, stop));
+    report(last_stop(rt, state.position, stop));
     Ok(state)
 }

@@ -19,16 +19,16 @@ pub enum Stop {
 }
 
 impl Stop {
-    // What the program says of it on standard error: nothing where the input ended.
+    // What the program says of it on standard error, a line with its line feed: nothing where the input ended.
     pub fn message(self) -> Option<&'static str>
         ensures { option_map (λ text. text.now) result ≡ message_of self }
     {
         match self {
             Stop::InputEnded => None,
-            Stop::ReadingFailed => Some("cipher: reading failed, the output may not be whole"),
-            Stop::WritingFailed => Some("cipher: writing failed, the output is not whole"),
+            Stop::ReadingFailed => Some("cipher: reading failed, the output may not be whole\n"),
+            Stop::WritingFailed => Some("cipher: writing failed, the output is not whole\n"),
             Stop::InputLeftOver => {
-                Some("cipher: stopped after 16777216 bytes of data, there was more")
+                Some("cipher: stopped after 16777216 bytes of data, there was more\n")
             }
         }
     }

@@ -1,13 +1,15 @@
 -- Which bytes are TEXTDATA, and which stand inside quotes.
-use Prim.Native.Nat.{ℕ, ◌<◌, ◌≤◌}
+use Prim.Native.Nat.{ℕ, zero, suc, ◌<◌, ◌≤◌}
 use mathlib.Core.Path.{◌≡◌, refl}
 use mathlib.Core.Logic.{◌⊎◌, inl, inr}
 use mathlib.Core.Bool.{Bool, true, false, ◌&&◌, ◌||◌}
 use native.Mathlib.Omega.{arith}
+use lib.ListN.{get_or}
 use lib.Dec.{eqb, leb}
 use borrow.Author.Tests.{eq-eqb, eqb-true, le-leb, leb-true}
 use Rattle.csv_grammar.specs.Grammar.{TextData}
 use Rattle.csv_fields.specs.Ends.{is_text_data, is_inside}
+use Rattle.csv_fields.specs.Answers.{each_of}
 
 or_right : (x y : Bool) → y ≡ true → x || y ≡ true
 or_right true y e = refl
@@ -91,3 +93,9 @@ inside_no b w = not_so (is_inside b) (λ e. by (inside_only b e) w)
     by (inr (inr (inr h))) (inl q) = omega arith
     by (inr (inr (inr h))) (inr (inl q)) = omega arith
     by (inr (inr (inr h))) (inr (inr q)) = q.2 h
+
+-- the entry of a byte in a table of a test
+pub each_at : (n : ℕ) (test : ℕ → Bool) (b : ℕ) → b < n → get_or (each_of n test) b false ≡ test b
+each_at zero test b h = absurd (omega (arith, h))
+each_at (suc n) test zero h = refl
+each_at (suc n) test (suc b) h = each_at n (λ k. test (suc k)) b (omega (arith, h))

@@ -1,5 +1,5 @@
--- How the code says where a field or a run of bytes ends.
-use Rattle.std.specs.Prelude.{ℕ, ◌<◌, ◌≤◌, Bool, true, false, List, length, max, get_or, Option, Some, None, Result, Ok, Err}
+-- How the code says where a field or a run of bytes ends, and what a table of a test holds.
+use Rattle.std.specs.Prelude.{ℕ, zero, suc, [], ◌∷◌, ◌<◌, ◌≤◌, Bool, true, false, List, length, max, get_or, Option, Some, None, Result, Ok, Err}
 use Rattle.csv_fields.specs.Ends.{FieldEnd, PlainEnd}
 
 -- a field that is whole, or the place by which it can be none
@@ -20,3 +20,8 @@ Passed post text i e = (i ≤ e) × ((k : ℕ) → i ≤ k → k < e → (k < le
 pub record Run (post : ℕ → Bool → Type 0) (text : List ℕ) (i e : ℕ) : Type 0 where
   pub passed : Passed post text i e
   pub stops : e < length text → post (get_or text e 0) false
+
+-- what a test says of 0 to n - 1, in this order
+abbrev pub each_of : (n : ℕ) (test : ℕ → Bool) → List Bool
+each_of zero test = []
+each_of (suc n) test = test 0 ∷ each_of n (λ b. test (suc b))

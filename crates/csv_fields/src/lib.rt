@@ -1,73 +1,45 @@
 // Where a field of RFC 4180 text ends: runs of TEXTDATA, fields in quotes, and either.
 #![tactic(auto)]
 
+mod tables;
+
 ghost use Rattle.std.specs.Prelude.{◌≡◌, Bool, true, false, ◌<◌, ◌-◌, length, drop, slice_index};
 ghost use Rattle.csv_fields.specs.Ends.{is_text_data, is_inside, plain_end_in, quoted_end, field_end};
-ghost use Rattle.csv_fields.specs.Answers.{ended, plain_ended, Run};
+ghost use Rattle.csv_fields.specs.Answers.{ended, plain_ended, Run, each_of};
 
-// Whether a byte is TEXTDATA. The commonest bytes are tested first: as one `match` over ranges plain orders took 1.4 times the
-// instructions, more than their bar.
-#[tactic(auto, unfolding(crate::specs::Ends::is_text_data))]
+// Both tests look their byte up, so that a run has one branch a byte. By comparisons, the commonest bytes first, long runs took up to four times the time: a
+// letter and a space went back to the start of the loop by two branches, and where these lay close together the processor did not tell them apart.
+
+// Of each byte, whether it is TEXTDATA.
+fn textdata() -> &'static [bool; 256]
+    ensures { result.now ≡ each_of 256 is_text_data }
+{
+    &tables::TEXTDATA
+}
+
+// Of each byte, whether it may stand inside quotes, and is no quote.
+fn inside() -> &'static [bool; 256]
+    ensures { result.now ≡ each_of 256 is_inside }
+{
+    &tables::INSIDE
+}
+
+// Whether a byte is TEXTDATA.
 pub fn is_textdata(b: u8) -> bool
     ensures { result ≡ is_text_data b }
 {
-    if 44 < b {
-        if b < 127 {
-            return true;
-        }
-    }
-    if b == 32 {
-        return true;
-    }
-    if b == 44 {
-        return false;
-    }
-    if b == 34 {
-        return false;
-    }
-    if b < 32 {
-        return false;
-    }
-    if b == 127 {
-        return false;
-    }
-    true
+    textdata()[usize::from(b)]
 }
 
-// Whether a byte may stand inside quotes, and is no quote. The commonest bytes are tested first: as one `match` over ranges quoted orders took 1.3 times
-// the instructions, more than their bar.
-#[tactic(auto, unfolding(crate::specs::Ends::is_inside, crate::specs::Ends::is_text_data))]
+// Whether a byte may stand inside quotes, and is no quote.
 pub fn is_inside(b: u8) -> bool
     ensures { result ≡ is_inside b }
 {
-    if 34 < b {
-        if b < 127 {
-            return true;
-        }
-    }
-    if b == 32 {
-        return true;
-    }
-    if b == 34 {
-        return false;
-    }
-    if b < 32 {
-        if b == 13 {
-            return true;
-        }
-        if b == 10 {
-            return true;
-        }
-        return false;
-    }
-    if b == 127 {
-        return false;
-    }
-    true
+    inside()[usize::from(b)]
 }
 
 // The end of the bytes from a place on that pass a test.
-// A `while`: as a `for` over the places a walk over quoted orders took 1.2 times the instructions, more than its bar.
+// A `while`: as a `for` over the places a walk over quoted orders took 1.2 times the instructions, more than its bar (measured where bytes were compared).
 fn run_end<F: Fn(u8) -> bool>(text: &[u8], from: usize, passes: F) -> usize
     requires { F.IsAlwaysCallable passes }
     ensures { Run (F.post passes) text.now from result }
@@ -79,9 +51,8 @@ fn run_end<F: Fn(u8) -> bool>(text: &[u8], from: usize, passes: F) -> usize
     i
 }
 
-// The same in a text whose last byte does not pass, so that no byte asks for the text's end. By two bytes a turn, as in
-// `csv_contents`, plain orders took 8.6 instructions a byte, more than their bar. By `position`, which asks for it, plain orders took 1.2 times
-// the instructions, more than their bar.
+// The same in a text whose last byte does not pass, so that no byte asks for the text's end. Measured where bytes were compared: by two bytes a turn, as in
+// `csv_contents`, plain orders took 8.6 instructions a byte for 8.25, and by `position`, which asks for the end, 1.2 times the instructions.
 fn stop_from<F: Fn(u8) -> bool>(text: &[u8], from: usize, passes: F) -> usize
     requires callable { F.IsAlwaysCallable passes }
     requires within { from < length text.now }

@@ -18,7 +18,7 @@ use Rattle.loading.specs.Loading.{Bytes}
 use Rattle.refusals.specs.Numbers.{accepted}
 use Rattle.refusals.specs.Tests.{returned}
 use Rattle.refusals.specs.Lines.{NumberOfFirst}
-use Rattle.answers.specs.Answers.{Answer}
+use Rattle.answers.specs.declared.numbered.Answer.{Answer}
 use Rattle.answers.specs.Tests.{limit, window_test, WellFormed}
 use Rattle.opening.specs.Opening.{opened, OpeningAccepts, Leads}
 use Rattle.positions.specs.Positions.{moved_to}

@@ -5,10 +5,11 @@ use Rattle.galois.specs.Words.{at}
 use Rattle.generator.specs.declared.State.{State}
 use Rattle.masking.specs.Masking.{masked}
 use Rattle.loading.specs.Loading.{zeros}
-use Rattle.answers.specs.Answers.{Answer}
+use Rattle.answers.specs.declared.numbered.Answer.{Answer}
 use Rattle.answers.specs.Tests.{limit}
 use Rattle.opening.specs.Opening.{opened}
 use Rattle.applying.specs.Applying.{keystream_byte, windowed, windowed_buffer}
+use Rattle.framing.specs.declared.RefusalLine.{RefusalLine}
 
 -- "one byte giving the key length": 0 where there is none
 abbrev pub key_length_in : (input : List ℕ) → ℕ
@@ -39,13 +40,8 @@ started input = opened (key_in input) (iv_in input)
 abbrev pub refusal_line : (number : ℕ) → List ℕ
 refusal_line number = ascii "refused " ++ (decimal number ++ ascii "\n")
 
--- bytes that begin with a line, and its length
-pub record LineInFront : Type 0 where
-  pub bytes : List ℕ
-  pub count : ℕ
-
 -- a line at the front of 29 bytes, the others 0, and its length: the longest line has eight bytes, 20 digits and a line feed
-abbrev pub in_front : (line : List ℕ) → LineInFront
+abbrev pub in_front : (line : List ℕ) → RefusalLine
 in_front line = record { bytes = line ++ drop (length line) (zeros 29); count = length line }
 
 -- "It writes the data with the keystream applied. .. At the limit it stops after 16,777,216 data bytes."

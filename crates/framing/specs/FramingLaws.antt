@@ -37,7 +37,7 @@ pub record FramingLaws : Type 0 where
   pub refused_1 : refusal_line 1 ≡ 114 ∷ 101 ∷ 102 ∷ 117 ∷ 115 ∷ 101 ∷ 100 ∷ 32 ∷ 49 ∷ 10 ∷ []
   pub refused_2 : refusal_line 2 ≡ 114 ∷ 101 ∷ 102 ∷ 117 ∷ 115 ∷ 101 ∷ 100 ∷ 32 ∷ 50 ∷ 10 ∷ []
   pub refused_14 : refusal_line 14 ≡ 114 ∷ 101 ∷ 102 ∷ 117 ∷ 115 ∷ 101 ∷ 100 ∷ 32 ∷ 49 ∷ 52 ∷ 10 ∷ []
-  -- of 29 bytes with a line at their front, as many as are counted, from the first on, are the line
+  -- the bytes that are handed over for a line: as many as are counted, from the first on, are the line
   pub line_in_front : (line : List ℕ) → take (in_front line).count (in_front line).bytes ≡ line
   -- the header is enough: its first byte, the key and the IV, or the whole input where that is shorter
   pub header_alone : (input : List ℕ) → started (take (33 + key_length_in input) input) ≡ started input

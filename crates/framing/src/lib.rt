@@ -1,15 +1,15 @@
 // The cipher program's input: the state that its header opens, how much of the data to take at a time, and the line of a refusal.
 #![tactic(auto)]
 
-ghost use Rattle.std.specs.Prelude.{◌≡◌, ◌+◌, ◌-◌, ◌≤◌, min, length, Some};
+ghost use Rattle.std.specs.Prelude.{◌≡◌, ◌+◌, ◌-◌, ◌≤◌, min, length};
+ghost use Rattle.io.specs.Counts.{IsPrefixLen};
 ghost use Rattle.answers.specs.Answers.{answered};
 ghost use Rattle.answers.specs.Tests.{limit};
-ghost use Rattle.framing.specs.Framing.{lacking, started, refusal_line};
+ghost use Rattle.framing.specs.Framing.{lacking, started, refusal_line, in_front};
 
 use answers::{LIMIT, Refused};
 use generator::State;
 use opening::open;
-use std::fmt;
 
 // The bytes of an IV.
 pub const IV_BYTES: usize = 32;
@@ -45,27 +45,29 @@ pub fn start(header: &[u8]) -> Result<State, Refused>
     open(key, &rest[..IV_BYTES.min(rest.len())])
 }
 
-// The line of a refusal, as it is printed, with its line feed. The number is a u64, for `refusal_line` promises the line of each.
+// A line at the front of its bytes, and its length.
 #[derive(Clone, Copy)]
 pub struct RefusalLine {
-    pub number: u64,
+    pub bytes: [u8; 29],
+    pub count: usize,
 }
 
-impl fmt::Display for RefusalLine {
-    ghost output = { λ line. Some (refusal_line line.number) };
-
-    #[tactic(auto, using(crate::proofs::RefusalLines::printed_decimal))]
-    fn fmt<W: fmt::Write>(&self, f: &mut fmt::Formatter<W>) -> fmt::Result {
-        let number = self.number;
-        writeln!(f, "refused {number}")
-    }
-}
-
-// The line of a refusal, of any number.
+// The line of a refusal, of any number: handed over as bytes, since what a value prints is said only of a `fmt` that answers `Ok`.
 pub fn refusal_line(number: u64) -> RefusalLine
-    ensures { ⟦<RefusalLine as fmt::Display>⟧.output result ≡ Some (refusal_line number) }
+    ensures value { result ≡ in_front (refusal_line number) }
+    ensures prefix_len { IsPrefixLen result.count result.bytes }
 {
-    RefusalLine { number }
+    let mut digits = [0u8; 20];
+    let k = io::decimal(number, &mut digits);
+    let end = 8 + k;
+    let mut bytes = [0u8; 29];
+    copying::copy(b"refused ", &mut bytes[..8]);
+    copying::copy(&digits[..k], &mut bytes[8..end]);
+    bytes[end] = b'\n';
+    RefusalLine {
+        bytes,
+        count: end + 1,
+    }
 }
 
 // How many bytes of a buffer of len the next piece may fill: no more than are left up to the last position.

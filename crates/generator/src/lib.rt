@@ -147,7 +147,7 @@ pub fn step_back(kind: Kind, s: State, tables: BackTables<'_>) -> State
 {
     let c = s.cells;
     let r1 = substitute_word_inverse_by_tables(s.r2, tables.columns, tables.bytes);
-    let r2 = s.r1.wrapping_sub(c[12]);
+    let r2 = words::subtract(s.r1, c[12]);
     let f = filter(c[14], r1, r2);
     let last = mix_in(kind, f, c[15]);
     let rest = last ^ c[12] ^ alpha_inverse_times_by_table(c[10], tables.inverse);

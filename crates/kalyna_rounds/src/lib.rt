@@ -2,13 +2,14 @@
 // back by the first four of M inverse and those of π inverse. Tables are lent.
 #![tactic(auto)]
 
-ghost use Rattle.std.specs.Prelude.{◌≡◌, [], ◌∷◌};
+ghost use Rattle.std.specs.Prelude.{◌≡◌, ◌<◌, [], ◌∷◌};
 ghost use Rattle.substitution.specs.Substitution.{halves_exchanged};
 ghost use Rattle.kalyna_cipher.specs.Rounds.{added, subtracted, xored};
 ghost use Rattle.kalyna_rounds.specs.RoundsByTables.{substitution_four, matrix_inverse_four, looked_up_half, gathered, sent_half, sent_on, round_by, round_inverse_by};
 
 use columns::{matrix_inverse_tables, substitution_tables};
 use std::array::from_fn;
+use words::widen;
 
 // ---- round keys, word by word: a function for each operation, in a line each, since one for all three would have to be told which by a closure
 
@@ -21,7 +22,7 @@ pub fn add(s: [u64; 4], k: [u64; 4]) -> [u64; 4]
 pub fn subtract(s: [u64; 4], k: [u64; 4]) -> [u64; 4]
     ensures { result ≡ subtracted k s }
 {
-    from_fn(|c| s[c].wrapping_sub(k[c]))
+    from_fn(|c| words::subtract(s[c], k[c]))
 }
 
 pub fn xor(s: [u64; 4], k: [u64; 4]) -> [u64; 4]
@@ -87,24 +88,21 @@ pub fn round_by_tables(s: [u64; 4], tables: &[[u64; 256]; 4]) -> [u64; 4]
 
 // ---- a round back
 
-// Bytes 0 and 1 of w and bytes 2 and 3 of x, each through its table, as half a word; by shifts, as above.
-fn send_half(w: u64, x: u64, bytes: &[[u8; 256]; 4]) -> u32
-    ensures { result ≡ sent_half bytes.now w x }
+// Bytes 0 and 1 of w and bytes 2 and 3 of x, each through its table, as the lower half of a word; by shifts, as above.
+fn send_half(w: u64, x: u64, bytes: &[[u8; 256]; 4]) -> u64
+    ensures { (result ≡ sent_half bytes.now w x) × (result < 0x100000000) }
 {
-    let sent = [
-        bytes[0][((w >> 0) % 256) as usize],
-        bytes[1][((w >> 8) % 256) as usize],
-        bytes[2][((x >> 16) % 256) as usize],
-        bytes[3][((x >> 24) % 256) as usize],
-    ];
-    u32::from_le_bytes(sent)
+    widen(bytes[0][((w >> 0) % 256) as usize])
+        + widen(bytes[1][((w >> 8) % 256) as usize]) * 0x100
+        + widen(bytes[2][((x >> 16) % 256) as usize]) * 0x10000
+        + widen(bytes[3][((x >> 24) % 256) as usize]) * 0x1000000
 }
 
 // Two bytes of each word, each through its table.
 fn send_on(w: u64, x: u64, y: u64, z: u64, bytes: &[[u8; 256]; 4]) -> u64
     ensures { result ≡ sent_on bytes.now (w ∷ x ∷ y ∷ z ∷ []) }
 {
-    u64::from(send_half(y >> 32, z >> 32, bytes)) * 0x100000000 + u64::from(send_half(w, x, bytes))
+    send_half(y >> 32, z >> 32, bytes) * 0x100000000 + send_half(w, x, bytes)
 }
 
 // Word by word, as a round.

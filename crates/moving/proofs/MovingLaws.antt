@@ -10,7 +10,7 @@ use Rattle.generator.specs.Registers.{EighteenWords, registers_of}
 use Rattle.refusals.specs.Numbers.{accepted}
 use Rattle.refusals.specs.Tests.{returned}
 use Rattle.refusals.proofs.Tests.{returned_none}
-use Rattle.answers.specs.Answers.{Answer}
+use Rattle.answers.specs.declared.numbered.Answer.{Answer}
 use Rattle.answers.specs.Tests.{limit, size_mark_test, position_test, new_position, new_position_above_test, new_position_below_test, WellFormed}
 use Rattle.answers.proofs.Tests.{position_le}
 use Rattle.answers.proofs.Lines.{refuses_exactly, state_decides, new_position_above_decides, new_position_below_decides}

@@ -3,7 +3,7 @@ use Rattle.std.specs.Prelude.{List, [], ◌∷◌, ◌++◌, ℤ, nat_abs}
 use Rattle.generator.specs.declared.State.{State}
 use Rattle.refusals.specs.Tests.{Test}
 use Rattle.refusals.specs.Lines.{Line}
-use Rattle.answers.specs.Answers.{Answer}
+use Rattle.answers.specs.declared.numbered.Answer.{Answer}
 use Rattle.answers.specs.Tests.{state_tests, new_position, new_position_above_test, new_position_below_test, answer_of}
 use Rattle.answers.specs.Lines.{state_lines, new_position_above_line, new_position_below_line}
 use Rattle.positions.specs.Positions.{moved_to}

@@ -7,7 +7,7 @@ use Rattle.loading.specs.Loading.{Bytes, size_mark, registers_at}
 use Rattle.refusals.specs.Numbers.{accepted, refused_zero_key}
 use Rattle.refusals.specs.Tests.{Test}
 use Rattle.refusals.specs.Lines.{Line}
-use Rattle.answers.specs.Answers.{Answer}
+use Rattle.answers.specs.declared.numbered.Answer.{Answer}
 use Rattle.answers.specs.Tests.{key_length_test, iv_length_test, answer_of}
 use Rattle.answers.specs.Lines.{key_length_line, iv_length_line}
 

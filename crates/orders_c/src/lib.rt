@@ -7,9 +7,7 @@ ghost use Rattle.csv_contents.specs.Contents.{answer_of, target_of, number_of};
 ghost use Rattle.orders_c.specs.Words.{ReadsTo, PartTo, span_words, written_words, cursor_in, cursor_words, next_number, next_cursor, next_part};
 
 use csv_reader::{Counts, Cursor, Span, content, next, part, read};
-
-// What a call returns that refuses nothing.
-const ACCEPTED: u64 = 0;
+use refusals::ACCEPTED;
 
 // The cursor that two words hold: the place, and 0 at the start of a line.
 // No `From`: the words are C's, and an impl for Cursor would have to stand in csv_walking, which knows nothing of C.

@@ -7,6 +7,7 @@ ghost use Rattle.printing.specs.Printing.{byte_text, word_text};
 
 use answers::Refused;
 use generator::State;
+use refusals::ACCEPTED;
 use std::fmt;
 
 // Standard output's number.
@@ -74,7 +75,7 @@ pub fn number_and_state(answer: Result<State, Refused>) -> (u64, State)
     ensures state { result.1 ≡ (answered answer).state }
 {
     match answer {
-        Ok(s) => (0, s),
+        Ok(s) => (ACCEPTED, s),
         Err(refused) => (refused.refusal.number(), refused.state),
     }
 }

@@ -4,6 +4,9 @@
 ghost use Rattle.std.specs.Prelude.{◌≡◌};
 ghost use Rattle.refusals.specs.Refusals.{number_of, refusal_number};
 
+// What a call answers with that refuses nothing.
+pub const ACCEPTED: u64 = 0;
+
 // What the papers refuse, each with its number; specs/Numbers.antt and the headers for C have the same names.
 #[derive(Clone, Copy, Debug, PartialEq, Eq)]
 pub enum Refusal {
@@ -67,7 +70,7 @@ pub fn number_of<T: Drop>(answer: Result<T, Refusal>) -> u64
     ensures { result ≡ number_of answer }
 {
     match answer {
-        Ok(_) => 0,
+        Ok(_) => ACCEPTED,
         Err(refusal) => refusal.number(),
     }
 }

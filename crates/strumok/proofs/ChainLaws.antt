@@ -7,7 +7,7 @@ use lib.IntN.{ℤ, pos, ◌+ℤ◌, +ℤ_idl, +ℤ_idr, +ℤ_assoc}
 use lib.ListN.{length, drop}
 use Rattle.generator.specs.declared.State.{State}
 use Rattle.refusals.specs.Numbers.{accepted}
-use Rattle.answers.specs.Answers.{Answer}
+use Rattle.answers.specs.declared.numbered.Answer.{Answer}
 use Rattle.answers.specs.Tests.{WellFormed}
 use Rattle.opening.specs.Opening.{blank, opened, OpeningAccepts, Leads}
 use Rattle.opening.proofs.OpeningLaws.{opening_laws}

@@ -2,7 +2,7 @@
 use Rattle.std.specs.Prelude.{◌≡◌, List, [], ◌∷◌, ℕ, ℤ, pos, ◌+ℤ◌, length}
 use Rattle.generator.specs.declared.State.{State}
 use Rattle.refusals.specs.Numbers.{accepted}
-use Rattle.answers.specs.Answers.{Answer}
+use Rattle.answers.specs.declared.numbered.Answer.{Answer}
 use Rattle.opening.specs.Opening.{opened, OpeningAccepts}
 use Rattle.moving.specs.Moving.{moved}
 use Rattle.applying.specs.Applying.{applied, windowed}

@@ -2,9 +2,9 @@
 // target or over a window, with the cipher's tables or with lent ones, and checking a stored state against an IV.
 #![tactic(auto)]
 
-pub use answers::{LIMIT, Refused};
+pub use answers::{Answer, LIMIT, Refused};
 pub use applying::{apply, apply_with, window, window_with};
 pub use checking::check;
 pub use moving::move_by;
 pub use opening::open;
-pub use refusals::Refusal;
+pub use refusals::{ACCEPTED, Refusal};

@@ -20,7 +20,7 @@ use columns::step_tables;
 use kalyna::{decipher, encipher};
 use refusals::number_of;
 use strumok::{apply, apply_with, check, move_by, open, window, window_with};
-use twenty_words::{leave, state_in};
+use twenty_words::{leave_answer, state_in};
 
 // The state of key and IV to the twenty words; or a refusal, with the blank state in them.
 #[unsafe(no_mangle)]
@@ -29,7 +29,7 @@ pub extern "C" fn strumok_open(key: &[u8], iv: &[u8], state: &mut [u64; 20]) -> 
     ensures state_after { state.new ≡ words_of (opened key.now iv.now).state }
 {
     let a = open(key, iv);
-    leave(state, a)
+    leave_answer(state, a)
 }
 
 // The source with the keystream applied, to the front of the target, and the state moved on; or a refusal, with both as they were.
@@ -41,7 +41,7 @@ pub extern "C" fn strumok_apply(state: &mut [u64; 20], source: &[u8], target: &m
     ensures state_unchanged { (result ≡ accepted → ⊥) → state.new ≡ state.old }
 {
     let a = apply(state_in(*state), source, target);
-    leave(state, a)
+    leave_answer(state, a)
 }
 
 // The keystream over count bytes of the buffer from start on, and the state moved on; or a refusal, with both as they were.
@@ -58,7 +58,7 @@ pub extern "C" fn strumok_window(
     ensures state_unchanged { (result ≡ accepted → ⊥) → state.new ≡ state.old }
 {
     let a = window(state_in(*state), buffer, start, count);
-    leave(state, a)
+    leave_answer(state, a)
 }
 
 // The state distance bytes on, or back where it is negative; or a refusal, with the state as it was.
@@ -69,7 +69,7 @@ pub extern "C" fn strumok_move(state: &mut [u64; 20], distance: i64) -> u64
     ensures state_unchanged { (result ≡ accepted → ⊥) → state.new ≡ state.old }
 {
     let a = move_by(state_in(*state), distance);
-    leave(state, a)
+    leave_answer(state, a)
 }
 
 // The key that leads to the state with this IV, to the key target; or a refusal, with nothing written.
@@ -106,7 +106,7 @@ pub extern "C" fn strumok_apply_with(
     ensures state_unchanged { (result ≡ accepted → ⊥) → state.new ≡ state.old }
 {
     let a = apply_with(state_in(*state), tables, source, target);
-    leave(state, a)
+    leave_answer(state, a)
 }
 
 // As `strumok_window`, by the tables that are lent.
@@ -124,7 +124,7 @@ pub extern "C" fn strumok_window_with(
     ensures state_unchanged { (result ≡ accepted → ⊥) → state.new ≡ state.old }
 {
     let a = window_with(state_in(*state), tables, buffer, start, count);
-    leave(state, a)
+    leave_answer(state, a)
 }
 
 // ---- the block cipher

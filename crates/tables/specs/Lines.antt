@@ -13,11 +13,6 @@ line_end value = 32 ∷ (hex_word value ++ (10 ∷ []))
 abbrev pub line : (name argument : List ℕ) (value : ℕ) → List ℕ
 line name argument value = name ++ (32 ∷ (argument ++ line_end value))
 
--- the three with these words, one after another
-abbrev pub lines_of : (alpha inverse image : ℕ) → List ℕ
-lines_of alpha inverse image =
-    line (ascii "mula") (hex_digits 2 1) alpha ++ (line (ascii "muli") (hex_digits 2 1) inverse ++ line (ascii "T") (hex_word 0) image)
-
 -- the three, one after another
 abbrev pub three_lines : List ℕ
 three_lines =

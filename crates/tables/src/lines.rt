@@ -1,37 +1,61 @@
-// The three lines of the tables program, as a value that prints them.
-ghost use Rattle.std.specs.Prelude.{◌≡◌, Some};
-ghost use Rattle.tables.specs.Lines.{lines_of, three_lines};
+// The three lines of the tables program, as bytes: what a value prints is said only of a `fmt` that answers `Ok`, and the bytes are to be these always.
+ghost use Rattle.std.specs.Prelude.{◌≡◌, ◌∷◌, ◌++◌};
+ghost use Rattle.text.specs.Text.{ascii, hex_word};
+ghost use Rattle.tables.specs.Lines.{line_end, three_lines};
 
-use std::fmt;
-use text::HexWord;
+use text::hex_word;
 
-// The resulting words of the lines, in their order: entry 01 of each table, and T(0).
-#[derive(Clone, Copy)]
-pub struct Lines {
-    pub alpha: u64,
-    pub inverse: u64,
-    pub image: u64,
+// The beginning of the line of T: the name, and the word given to T.
+fn word_front(w: u64) -> [u8; 18]
+    ensures { result ≡ ascii "T" ++ (32 ∷ hex_word w) }
+{
+    let d = hex_word(w);
+    [
+        b'T', b' ', d[0], d[1], d[2], d[3], d[4], d[5], d[6], d[7], d[8], d[9], d[10], d[11],
+        d[12], d[13], d[14], d[15],
+    ]
 }
 
-impl fmt::Display for Lines {
-    ghost output = { λ l. Some (lines_of l.alpha l.inverse l.image) };
+// The end of a line: the resulting word.
+fn value_end(value: u64) -> [u8; 18]
+    ensures { result ≡ line_end value }
+{
+    let d = hex_word(value);
+    [
+        b' ', d[0], d[1], d[2], d[3], d[4], d[5], d[6], d[7], d[8], d[9], d[10], d[11], d[12],
+        d[13], d[14], d[15], b'\n',
+    ]
+}
 
-    fn fmt<W: fmt::Write>(&self, f: &mut fmt::Formatter<W>) -> fmt::Result {
-        let alpha = HexWord(self.alpha);
-        let inverse = HexWord(self.inverse);
-        let zero = HexWord(0);
-        let image = HexWord(self.image);
-        write!(f, "mula 01 {alpha}\nmuli 01 {inverse}\nT {zero} {image}\n")
-    }
+// The lines, each in two parts, in their order.
+#[derive(Clone, Copy)]
+pub struct Lines {
+    pub mula: [u8; 7],
+    pub alpha: [u8; 18],
+    pub muli: [u8; 7],
+    pub inverse: [u8; 18],
+    pub t: [u8; 18],
+    pub image: [u8; 18],
 }
 
 // All three, from the tables.
 pub fn all_lines() -> Lines
-    ensures { ⟦<Lines as fmt::Display>⟧.output result ≡ Some three_lines }
+    ensures { result.mula ++ (result.alpha ++ (result.muli ++ (result.inverse ++ (result.t ++ result.image)))) ≡ three_lines }
 {
+    let first = galois::alpha_table();
+    let second = galois::alpha_inverse_table();
+    let eight = columns::substitution_tables();
+    let t_of_0 = substitution::substitute_word_by_tables(0, eight);
+    let alpha = value_end(first[1]);
+    let inverse = value_end(second[1]);
+    let t = word_front(0);
+    let image = value_end(t_of_0);
     Lines {
-        alpha: galois::alpha_table()[1],
-        inverse: galois::alpha_inverse_table()[1],
-        image: substitution::substitute_word_by_tables(0, columns::substitution_tables()),
+        mula: [b'm', b'u', b'l', b'a', b' ', b'0', b'1'],
+        alpha,
+        muli: [b'm', b'u', b'l', b'i', b' ', b'0', b'1'],
+        inverse,
+        t,
+        image,
     }
 }

@@ -18,14 +18,14 @@ fn digit_at(n: u64, i: u64) -> u8
     b'A' + (d - 10)
 }
 
-// The 16 digits of n, the most significant first. docs/GUARANTEES.md names it; what prints a word is HexWord, below.
+// The 16 digits of n, the most significant first: the lines of the tables program are made of them.
 pub fn hex_word(n: u64) -> [u8; 16]
     ensures { result ≡ hex_word n }
 {
     array::from_fn(move |k| digit_at(n, 15 - k as u64))
 }
 
-// A word that prints as these digits.
+// A word that prints as these digits, where whoever prints it may fail.
 #[derive(Clone, Copy)]
 pub struct HexWord(pub u64);
 

@@ -10,7 +10,7 @@ use Rattle.galois.specs.Words.{at}
 use Rattle.generator.specs.declared.State.{State}
 use Rattle.generator.proofs.Cells.{one_by_one_is}
 use Rattle.refusals.specs.Numbers.{accepted}
-use Rattle.answers.specs.Answers.{Answer}
+use Rattle.answers.specs.declared.numbered.Answer.{Answer}
 use Rattle.twenty_words.specs.TwentyWords.{words_of, state_in, TwentyWordsLaws}
 
 -- what the code of `state_in` makes

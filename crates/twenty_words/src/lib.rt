@@ -5,8 +5,10 @@ ghost use Rattle.std.specs.Prelude.{◌≡◌};
 ghost use Rattle.answers.specs.Answers.{answered};
 ghost use Rattle.twenty_words.specs.TwentyWords.{state_in, words_of};
 
-use answers::Refused;
+use answers::numbered::refused;
+use answers::{Answer, Refused};
 use generator::State;
+use refusals::ACCEPTED;
 
 // Functions, since an impl of From between twenty words and a state may stand only in the state's own crate.
 
@@ -36,20 +38,29 @@ pub fn words_of(s: State) -> [u64; 20]
     words
 }
 
-// The answer of a call: the words of its state to the caller's, and its number. By `match`, with the words written in each case: with one pair of number and
-// state for both cases, which moves states more often, and `map_err(..)?` in `applying`, a portion of 16 bytes took twice the instructions.
-pub fn leave(words: &mut [u64; 20], answer: Result<State, Refused>) -> u64
+// An answer: the words of its state to the caller's, and its number, whatever it is.
+pub fn leave(words: &mut [u64; 20], a: Answer) -> u64
+    ensures value { result ≡ a.number }
+    ensures words_after { words.new ≡ words_of a.state }
+{
+    *words = words_of(a.state);
+    a.number
+}
+
+// The answer of a call. By `match`, with the words written in each case: with one answer for both cases, which moves states more often, and `map_err(..)?`
+// in `applying`, a portion of 16 bytes took twice the instructions.
+pub fn leave_answer(words: &mut [u64; 20], answer: Result<State, Refused>) -> u64
     ensures value { result ≡ (answered answer).number }
     ensures words_after { words.new ≡ words_of (answered answer).state }
 {
     match answer {
-        Ok(s) => {
-            *words = words_of(s);
-            0
-        }
-        Err(refused) => {
-            *words = words_of(refused.state);
-            refused.refusal.number()
-        }
+        Ok(state) => leave(
+            words,
+            Answer {
+                number: ACCEPTED,
+                state,
+            },
+        ),
+        Err(e) => leave(words, refused(e.refusal.number(), e.state)),
     }
 }

@@ -5,7 +5,7 @@ ghost use Rattle.std.specs.Prelude.{◌≡◌, ◌<◌};
 ghost use Rattle.galois.specs.Words.{at, difference, word};
 ghost use Rattle.words.specs.Memory.{stored_word};
 
-// ---- std's methods by name, since docs/GUARANTEES.md names these contracts, and the edits of this crate try them
+// ---- std's methods by name: the difference of a step back and of round keys, and a byte that is put in its place in a word
 
 // The word to which b is added to give a.
 pub fn subtract(a: u64, b: u64) -> u64

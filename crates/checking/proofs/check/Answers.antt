@@ -3,7 +3,7 @@
 -- the demands of this check: the state holds eighteen words and the IV bytes, since a program holds them
 use mathlib.Core.Path.{ap, ◌∙◌}
 use borrow.Author.Rules.{rules}
-use Rattle.answers.specs.Answers.{Answer}
+use Rattle.answers.specs.declared.numbered.Answer.{Answer}
 use Rattle.answers.specs.declared.Refused.{Refused}
 use Rattle.refusals.specs.Refusals.{refusal_number}
 use Rattle.generator.proofs.Owned.{owned_words}

@@ -2,7 +2,8 @@
 use mathlib.Core.Path.{◌≡◌, ap, ◌∙◌, subst}
 use borrow.Author.Rules.{rules}
 use Rattle.generator.specs.declared.State.{State}
-use Rattle.answers.specs.Answers.{Answer, answered}
+use Rattle.answers.specs.Answers.{answered}
+use Rattle.answers.specs.declared.numbered.Answer.{Answer}
 use Rattle.checking.specs.Checking.{checked, checked_target}
 use Rattle.checking.specs.CheckingLaws.{ChecksExactly}
 use Rattle.strumok_c.proofs.strumok_check.Goals as goal

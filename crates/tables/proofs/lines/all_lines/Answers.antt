@@ -1,12 +1,9 @@
 -- `tables::lines::all_lines` meets its contract.
-use mathlib.Core.Path.{ap}
-use mathlib.Core.List.{List}
-use Rattle.std.specs.Prelude.{Some}
-use Prim.Native.Nat.{ℕ}
+use mathlib.Core.Path.{ap, ◌∙◌}
+use Rattle.tables.specs.Lines.{line_end}
 use Rattle.tables.proofs.Joined.{lines_joined}
 use Rattle.tables.proofs.lines.all_lines.Goals as goal
 
 pub returns : goal.returns
-returns c =
-    ap (λ (l : List ℕ). Some l)
-    (lines_joined c.alpha_table.ensures c.alpha_inverse_table.ensures c.substitution_tables.ensures c.substitute_word_by_tables.ensures)
+returns c = lines_joined c.alpha_table-first.ensures c.alpha_inverse_table-second.ensures c.substitution_tables-eight.ensures
+    c.value_end-alpha.ensures c.value_end-inverse.ensures c.word_front-t.ensures (c.value_end-image.ensures ∙ ap line_end c.substitute_word_by_tables-t_of_0.ensures)

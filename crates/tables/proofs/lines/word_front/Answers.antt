@@ -1,0 +1,7 @@
+-- `tables::lines::word_front` meets its contract, digit by digit.
+use Rattle.text.specs.Text.{hex_word}
+use Rattle.tables.proofs.lines.word_front.Goals as goal
+
+pub returns : goal.returns
+unfolding hex_word
+returns c = rw c.hex_word-d.ensures
