@@ -8,7 +8,7 @@ ghost use Rattle.csv_fields.specs.Ends.{is_text_data, is_inside, plain_end_in, q
 ghost use Rattle.csv_fields.specs.Answers.{ended, plain_ended, Run, each_of};
 
 // Both tests look their byte up, so that a run has one branch a byte. By comparisons, the commonest bytes first, long runs took up to four times the time: a
-// letter and a space went back to the start of the loop by two branches, and where these lay close together the processor did not tell them apart.
+// letter and a space went back to the start of the loop by two branches, and where these lay close together the processor seems not to have told them apart.
 
 // Of each byte, whether it is TEXTDATA.
 fn textdata() -> &'static [bool; 256]
